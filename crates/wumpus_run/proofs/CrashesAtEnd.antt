@@ -57,7 +57,7 @@ module _ (told : Settings) (start : State) where
       → ((rules : Rules) (input left : List ℕ) → AreRules before.holds told rules → known ≡ Some left
       → HasSaved told start rules before.gained between input left s old mid
       → Remains status rules before.gained now.gained input old new)
-      → Survives start status told before now old new
+      → Survives start status (Some told) before now old new
   Survives-kept status before now between known s old mid new kept ends = record {
     crash = if_given _ before.left (λ input e rules are. (by_rules input e rules are).crash);
     durable = λ done. if_given _ before.left (λ input e rules are. (by_rules input e rules are).durable done);
@@ -241,7 +241,7 @@ IsUnopened-fault before fault holds faults undamaged =
 -- and a crash leaves only what could be left before
 pub Survives-unopened : (told : Settings) (start : State) (before : Moment) (fault : BeginFault) (holds : Option Content) (faults : ℕ)
     (old new : Option Moments) → ((blob : ℕ) → fault ≡ opening.Damaged blob → ⊥) → Leaves old new (IsLeft old)
-    → Survives start (status_of_opening fault) told before (record before { holds = holds; store_faults = faults }) old new
+    → Survives start (status_of_opening fault) (Some told) before (record before { holds = holds; store_faults = faults }) old new
 Survives-unopened told start before fault holds faults old new undamaged leaves = record {
   crash = if_given _ before.left (λ input e rules are.
       (leaves_more old new (IsLeft old) (IsLeftOrSaved rules start input old) (λ content is. inl is) leaves).since);
@@ -254,7 +254,7 @@ module _ (told : Settings) (start : State) (before between : Moment) (engine : E
     (so_far : HasKept told start before between engine held old mid) where
   -- reading stopped
   pub Survives-stopped : (end : ReadEnd) (left : Option (List ℕ)) (last_read faults : ℕ)
-      → Survives start (status_of end) told before (record between { left = left; last_read = last_read; read_faults = faults }) old mid
+      → Survives start (status_of end) (Some told) before (record between { left = left; last_read = last_read; read_faults = faults }) old mid
   Survives-stopped end left last_read faults =
       let now : Moment = record between { left = left; last_read = last_read; read_faults = faults } in
       Survives-kept told start (status_of end) before now between.gained (prepend_known held.bytes between.left) so_far.state old mid mid
@@ -268,7 +268,7 @@ module _ (told : Settings) (start : State) (before between : Moment) (engine : E
       → ((s last : State) → Stands engine between.holds s → IsSavedLast mid s last
       → Leaves mid new (IsImageOfEither last (left_to_next s)))
       → ((s : State) → Stands engine between.holds s → status ≡ Done → LeavesNow new (IsImageOf (left_to_next s)))
-      → Survives start status told before now old new
+      → Survives start status (Some told) before now old new
   Survives-saved status now rest new same next survives durable =
       let s = so_far.state in
       let known = prepend_known held.bytes between.left in
@@ -284,7 +284,7 @@ module _ (told : Settings) (start : State) (before between : Moment) (engine : E
     pub Survives-unanswered : (trouble : Trouble) → now.gained ≡ between.gained
         → ((s last : State) → Stands engine between.holds s → IsSavedLast mid s last
         → Leaves mid new (IsImageOfOne (last ∷ saved_for s (said_by item))))
-        → Survives start (status_of_trouble trouble) told before now old new
+        → Survives start (status_of_trouble trouble) (Some told) before now old new
     Survives-unanswered trouble same survives =
         let s = so_far.state in
         let status = status_of_trouble trouble in
@@ -298,7 +298,7 @@ module _ (told : Settings) (start : State) (before between : Moment) (engine : E
     -- a reply wasn't written whole
     pub Survives-unwritten : (fault : Fault) (later : Engine) (reply written : List ℕ) → engine.parts.flush_at ≡ told.flush_at
         → IsAnswered engine later between.holds now.holds item reply mid new → written ≡ reply
-        → GainsPrefix between.gained now.gained written → Survives start (status_of_fault fault) told before now old new
+        → GainsPrefix between.gained now.gained written → Survives start (status_of_fault fault) (Some told) before now old new
     Survives-unwritten fault later reply written full answered same wrote =
         let s = so_far.state in
         let status = status_of_fault fault in

@@ -1,6 +1,6 @@
 -- What a demonstration counts, item by item, and how it ends.
 use Rattle.std.proofs.Common.{◌≡◌, ℕ, ◌<◌, ◌^◌, ◌⊎◌, false, List, [], ◌++◌, map, Option, Some, None}
-use Rattle.std.proofs.Common.{refl, sym, ap, ◌∙◌, subst, inl, inr, ⊎_elim, arith, append-nil}
+use Rattle.std.proofs.Common.{refl, sym, ap, ◌∙◌, subst, inl, inr, arith, append-nil}
 use Rattle.std.specs.Io.KnownBytes.{Appends, prepend_known}
 use Rattle.std.proofs.KnownBytes.{Appends-nil}
 use Rattle.wu_base.specs.declared.limits.TheConstants.{BLOBS_SPENT_AT, FLUSH_DEFAULT, SPENT_AT}
@@ -29,12 +29,10 @@ use Rattle.wu_engine.specs.Stands.{Stands}
 use Rattle.wu_engine.specs.States.{first_state}
 use Rattle.wu_engine.proofs.KeptStates.{first_is_state}
 use Rattle.wumpus_run.specs.declared.demo.TheConstants.{SCRIPT_MAX}
-use Rattle.wumpus_run.specs.declared.statuses.Status.{Status}
 use Rattle.wumpus_run.specs.declared.statuses.Status.TheVariants.{Done, WriteFault, NoMemory}
 use Rattle.wumpus_run.specs.declared.tallies.Tally.{Tally}
 use Rattle.wumpus_run.specs.Replies.{after, met, reply_to}
 use Rattle.wumpus_run.specs.Ended.{status_of_fault}
-use Rattle.wumpus_run.specs.Session.{IsCounted}
 use Rattle.wumpus_run.specs.Demo.{IfDemo, IsDemoLine, IsFew, IsReady, IsShown, IsTallyOf, IsUnderWay}
 use Rattle.wumpus_run.specs.Demo.{counted, counted_all, demo_line, no_reply, tally_from}
 use Rattle.wumpus_run.proofs.EndStatuses.{writing}
@@ -129,15 +127,6 @@ module _ (script : List ℕ) (source next : KnownSource) (reader rest : Held) wh
       ∙ so_far.sums read are
 
 -- ---- how it ends
-
--- a demonstration ends in none of the other ways, so the counts of other faults stay
-pub other-calm : (number : ℕ) (fault status : Status) (before now : Option (List ℕ)) (count : ℕ) → IsShown number status before now
-    → (fault ≡ Done → ⊥) → (fault ≡ WriteFault → ⊥) → (fault ≡ NoMemory → ⊥) → IsCounted fault status count count
-other-calm number fault status before now count shown done write memory = record {
-  rose = λ e. absurd (⊎_elim (λ is. done (sym e ∙ is)) (λ rest. ⊎_elim (λ is. write (sym e ∙ is)) (λ is. memory (sym e ∙ is)) rest)
-      shown.ends);
-  calm = λ e. refl;
-}
 
 -- where there was no memory, nothing was written
 pub unshown : (number : ℕ) (gained : Option (List ℕ)) → IsShown number NoMemory gained gained

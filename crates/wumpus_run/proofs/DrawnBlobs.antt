@@ -1,5 +1,5 @@
 -- A call adds only blobs that may be drawn for it.
-use Rattle.std.proofs.Common.{◌≡◌, ◌⊎◌, inl, inr, ⊎_elim, ℕ, ◌+◌, ◌<◌, ◌≤◌, List, Option, None, Some, refl, sym, ap, ◌∙◌, subst, arith}
+use Rattle.std.proofs.Common.{◌≡◌, ◌⊎◌, inl, inr, ⊎_elim, ℕ, ◌+◌, ◌<◌, ◌≤◌, List, Option, None, Some, sym, ap, ◌∙◌, subst, arith}
 use Rattle.std.specs.Prelude.{IsSome}
 use Rattle.std.proofs.lemmas.Bool.{cases_lt}
 use Rattle.wu_outside.specs.Content.{Content}
@@ -12,10 +12,9 @@ use Rattle.wu_query.specs.States.{State, IsState}
 use Rattle.wu_engine.specs.declared.engines.Engine.{Engine}
 use Rattle.wu_engine.specs.Naming.{HasNoStray, IsNamed}
 use Rattle.wu_engine.specs.Saving.{KeepsNamed, removed_by_save}
-use Rattle.wu_engine.specs.Stands.{KeepsOthers, Stands}
+use Rattle.wu_engine.specs.Stands.{KeepsOthers}
 use Rattle.wumpus_run.specs.Kept.{AddsDrawnFor}
 use Rattle.wumpus_run.specs.Session.{HasOnlyDrawn, drawn_by}
-use Rattle.wumpus_run.specs.Strays.{AddsDrawn}
 use Rattle.wumpus_run.proofs.StrayBlobs.{named_or_kept}
 
 -- a store without a stray blob has none that is drawn

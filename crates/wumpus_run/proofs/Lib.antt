@@ -11,6 +11,7 @@ pub mod TakenReplies
 pub mod PromptAtEnd
 pub mod NamedAtEnd
 pub mod StrayBlobs
+pub mod UnaskedSessions
 pub mod UntakenBytes
 pub mod DrawnBlobs
 pub mod PutsAtEnd

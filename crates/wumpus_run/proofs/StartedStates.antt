@@ -1,5 +1,5 @@
 -- A session under way, from a state of which the store held an image, and how it ends.
-use Rattle.std.proofs.Common.{◌≡◌, ℕ, ◌+◌, ◌<◌, ◌^◌, List, [], Option, None, Err, true, false, refl, sym, ◌∙◌, subst, arith}
+use Rattle.std.proofs.Common.{◌≡◌, ℕ, ◌+◌, ◌<◌, ◌^◌, List, [], Option, None, Some, Err, true, false, refl, sym, ◌∙◌, subst, arith}
 use Rattle.std.specs.Io.KnownBytes.{Appends, IsAtEnd, prepend_known}
 use Rattle.wu_base.specs.declared.limits.TheConstants.{BLOBS_SPENT_AT, READ_MAX, SPENT_AT}
 use Rattle.wu_base.specs.declared.troubles.Trouble.{Trouble}
@@ -186,13 +186,13 @@ module _ (told : Settings) (before : Moment) where
   pub IsSession-unopened : (T : Type 0) (fault : BeginFault) (holds : Option Content) (faults : ℕ)
       → IsBeginCause before.holds before.store_faults faults fault → IsSpentWhere {T = T} before.holds (Err fault)
       → ((s : State) → HoldsImage before.holds s → (blob : ℕ) → fault ≡ opening.Damaged blob → ⊥)
-      → IsSession (status_of_opening fault) told before (record before { holds = holds; store_faults = faults })
+      → IsSession (status_of_opening fault) (Some told) before (record before { holds = holds; store_faults = faults })
   IsSession-unopened T fault holds faults cause spent undamaged =
       let now : Moment = record before { holds = holds; store_faults = faults } in
       let other = unopened fault in
       let few = TakesAtMost-none before.left told.max_input in
       record {
-        usage = other Usage refl;
+        usage = λ e. absurd (other Usage refl e);
         all_taken = λ e. absurd (other Done refl e);
         done = λ e. absurd (other Done refl e);
         saved = λ e. absurd (other Done refl e);
@@ -212,12 +212,12 @@ module _ (told : Settings) (before : Moment) where
     pub IsSession-stopped : (end : ReadEnd) (left : Option (List ℕ)) (last_read faults : ℕ)
         → EndsBeforeItem between.left left last_read old end → IsReadCounted end between.read_faults faults
         → GivesAtMost (asked_at_once old.spare) between.left left between.last_read last_read
-        → IsSession (status_of end) told before (record between { left = left; last_read = last_read; read_faults = faults })
+        → IsSession (status_of end) (Some told) before (record between { left = left; last_read = last_read; read_faults = faults })
     IsSession-stopped end left last_read faults stops counted more =
         let now : Moment = record between { left = left; last_read = last_read; read_faults = faults } in
         let other = reading end in
         record {
-          usage = other Usage refl;
+          usage = λ e. absurd (other Usage refl e);
           all_taken = λ e. absurd (other Done refl e);
           done = λ e. absurd (other Done refl e);
           saved = λ e. absurd (other Done refl e);
@@ -244,7 +244,7 @@ module _ (told : Settings) (before : Moment) where
         → ((s : State) → Stands engine between.holds s → status ≡ Done → HoldsImage holds (rested_state (saved_state s)))
         → ((s : State) → Stands engine between.holds s → status ≡ Done
         → AddsNoStray s.layout between.holds (rested_state (saved_state s)).layout holds)
-        → IsSession status told before
+        → IsSession status (Some told) before
         (record between { left = left; last_read = last_read; read_faults = faults; holds = holds; store_faults = store_faults })
     IsSession-saved status new left last_read faults holds store_faults ends took next at_end more read counted image_after adds =
         let now : Moment = record between {
@@ -260,7 +260,7 @@ module _ (told : Settings) (before : Moment) where
         let taken = HasTaken-more before.left between.left left last_read old new items.End told.max_input i.taken took in
         let few : TakesAtMost told.max_input before.left left = TakesAtMost-taken before.left left new.spare told.max_input taken in
         record {
-          usage = other Usage refl;
+          usage = λ e. absurd (other Usage refl e);
           all_taken = λ e. TakesAll-end told before now (at_end took.2.2) few;
           done = λ e s image.
               let so_far = i.from s image in
@@ -293,7 +293,7 @@ module _ (told : Settings) (before : Moment) where
         → GivesAtMost (asked_at_once old.spare) between.left left between.last_read last_read
         → faults ≡ between.read_faults → HasTroubleCause {T = Unit {0}} engine.ended between.store_faults store_faults (Err trouble)
         → ((s : State) → Stands engine between.holds s → (blob : ℕ) → trouble ≡ troubles.Damaged blob → ⊥)
-        → IsSession (status_of_trouble trouble) told before
+        → IsSession (status_of_trouble trouble) (Some told) before
         (record between { left = left; last_read = last_read; read_faults = faults; holds = holds; store_faults = store_faults })
     IsSession-unanswered trouble new item left last_read faults holds store_faults before_end took more read cause undamaged =
         let now : Moment = record between {
@@ -308,7 +308,7 @@ module _ (told : Settings) (before : Moment) where
         let taken = HasTaken-more before.left between.left left last_read old new item told.max_input i.taken took in
         let few : TakesAtMost told.max_input before.left left = TakesAtMost-taken before.left left new.spare told.max_input taken in
         record {
-          usage = other Usage refl;
+          usage = λ e. absurd (other Usage refl e);
           all_taken = λ e. absurd (other Done refl e);
           done = λ e. absurd (other Done refl e);
           saved = λ e. absurd (other Done refl e);
@@ -337,14 +337,14 @@ module _ (told : Settings) (before : Moment) where
         → now.read_faults ≡ between.read_faults
         → HasFaultCause {T = Unit {0}} between.write_faults now.write_faults (Err fault) → now.store_faults ≡ between.store_faults
         → Replies between.holds now.holds engine later item reply → written ≡ reply → GainsPrefix between.gained now.gained written
-        → IsSession (status_of_fault fault) told before now
+        → IsSession (status_of_fault fault) (Some told) before now
     IsSession-unwritten fault now later new item reply written before_end took next more read cause store replies same part =
         let status = status_of_fault fault in
         let other = writing fault in
         let taken = HasTaken-more before.left between.left now.left now.last_read old new item told.max_input i.taken took in
         let few = TakesAtMost-taken before.left now.left new.spare told.max_input taken in
         record {
-          usage = other Usage refl;
+          usage = λ e. absurd (other Usage refl e);
           all_taken = λ e. absurd (other Done refl e);
           done = λ e. absurd (other Done refl e);
           saved = λ e. absurd (other Done refl e);

@@ -15,8 +15,7 @@ use Rattle.wu_query.specs.States.{State, IsState}
 use Rattle.wu_engine.specs.declared.engines.Engine.{Engine}
 use Rattle.wu_engine.specs.Naming.{IsNamed}
 use Rattle.wu_engine.specs.Saving.{KeepsNamed, checkpoint_blob, removed_by_save}
-use Rattle.wu_engine.specs.Stands.{KeepsOthers, Stands}
-use Rattle.wu_engine.specs.States.{saved_state}
+use Rattle.wu_engine.specs.Stands.{KeepsOthers}
 use Rattle.wu_engine.proofs.NamedBlobs.{event_names, flush_names, save_names_from, work_names}
 use Rattle.wu_engine.proofs.SavedContents.{checkpoint_count}
 use Rattle.wumpus_run.specs.Kept.{TouchesNoStray}

@@ -48,7 +48,7 @@ module _ (told : Settings) (start : State) where
 
   -- the store couldn't be opened: nothing but the store was touched
   pub Ends-unopened : (fault : BeginFault) (before : Moment) (holds : Option Content) (faults : ℕ)
-      → Ends start (status_of_opening fault) told before (record before { holds = holds; store_faults = faults })
+      → Ends start (status_of_opening fault) (Some told) before (record before { holds = holds; store_faults = faults })
   Ends-unopened opening.NoMemory before holds faults = record {
     prefix = AnswersPrefix-none before;
     only_taken = AnswersTaken-none told start before;
@@ -74,7 +74,7 @@ module _ (told : Settings) (start : State) where
   pub Ends-stopped : (end : ReadEnd) (before now : Moment) (between : Option (List ℕ)) (old : Held) (s : State)
       → HasAnswered told start before.holds before.gained now.gained before.left (prepend_known old.bytes between) s
       → HasReplied told start before.holds before.left between before.gained now.gained old s told.max_input
-      → EndsBeforeItem between now.left now.last_read old end → IsBrief before now → Ends start (status_of end) told before now
+      → EndsBeforeItem between now.left now.last_read old end → IsBrief before now → Ends start (status_of end) (Some told) before now
   Ends-stopped end before now between old s answered replied stops brief = record {
     prefix = IsPrefix-sent told start before.holds before.gained now.gained before.left (prepend_known old.bytes between) s answered;
     only_taken = AnswersTaken-so_far told start before now between old s stops.given replied stops.consumed (λ ended. (stops.over ended).0);
@@ -93,7 +93,7 @@ module _ (told : Settings) (start : State) where
       → HasAnswered told start before.holds before.gained mid before.left (prepend_known old.bytes between) s
       → HasReplied told start before.holds before.left between before.gained mid old s told.max_input
       → reply ≡ said_bytes s (said_by item) → written ≡ reply → GainsPrefix mid now.gained written → IsBrief before now
-      → Ends start (status_of_fault fault) told before now
+      → Ends start (status_of_fault fault) (Some told) before now
   Ends-unwritten fault before now between mid old new s item reply written other taken next answered replied replies same part
       brief = record {
         prefix = IsPrefix-part told start before.holds before.gained mid now.gained before.left (prepend_known old.bytes between)
@@ -114,7 +114,7 @@ module _ (told : Settings) (start : State) where
       → IsBeforeEnd item → TakesItem between now.left now.last_read old new item
       → HasAnswered told start before.holds before.gained now.gained before.left (prepend_known old.bytes between) s
       → HasReplied told start before.holds before.left between before.gained now.gained old s told.max_input → IsBrief before now
-      → Ends start (status_of_trouble trouble) told before now
+      → Ends start (status_of_trouble trouble) (Some told) before now
   Ends-unanswered trouble before now between old new s item other taken answered replied brief =
       let known = prepend_known old.bytes between in
       record {
@@ -142,7 +142,7 @@ module _ (told : Settings) (start : State) where
       → TakesItem between now.left now.last_read old new items.End
       → HasAnswered told start before.holds before.gained now.gained before.left (prepend_known old.bytes between) s
       → HasReplied told start before.holds before.left between before.gained now.gained old s told.max_input → IsBrief before now
-      → Ends start status told before now
+      → Ends start status (Some told) before now
   Ends-saved status before now between old new s ends taken answered replied brief =
       let known = prepend_known old.bytes between in
       record {

@@ -1,5 +1,5 @@
 -- What a crash in a session leaves of the store, and what one after it.
-use Rattle.std.specs.Prelude.{◌≡◌, ◌⊎◌, ℕ, ◌<◌, List, [], ◌∷◌, ◌++◌, length, map, take, Option, Some, IfSome}
+use Rattle.std.specs.Prelude.{◌≡◌, ◌⊎◌, ℕ, ◌<◌, List, [], ◌∷◌, ◌++◌, length, map, take, Option, IfSome}
 use Rattle.std.specs.List.{flat_map}
 use Rattle.std.specs.Io.KnownBytes.{Appends}
 use Rattle.wu_outside.specs.Content.{Content}
@@ -112,7 +112,8 @@ LeavesAcknowledged start status settings before now old new = IfSome settings (�
     ⊎ Acknowledges rules start (items_of input) before.gained now.gained new))
 
 -- what a crash in the session and after it leaves, however it ended
-pub record Survives (start : State) (status : Status) (told : Settings) (before now : Moment) (old new : Option Moments) : Type 0 where
-  pub crash : LeavesSaves start (Some told) before.holds before.left old new
-  pub durable : status ≡ Done → LeavesLast start (Some told) before.holds before.left new
-  pub acknowledged : LeavesAcknowledged start status (Some told) before now old new
+pub record Survives (start : State) (status : Status) (settings : Option Settings) (before now : Moment) (old new : Option Moments)
+    : Type 0 where
+  pub crash : LeavesSaves start settings before.holds before.left old new
+  pub durable : status ≡ Done → LeavesLast start settings before.holds before.left new
+  pub acknowledged : LeavesAcknowledged start status settings before now old new

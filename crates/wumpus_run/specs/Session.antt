@@ -63,6 +63,13 @@ session_settings (Demo number) = None
 abbrev pub settings_of : List (List ℕ) → Option Settings
 settings_of arguments = option_and_then session_settings (command_line_of arguments)
 
+-- What the arguments have no use for is as it was: all where they ask for nothing, source and store at a demonstration.
+abbrev pub LeavesAlone : {I O D : Type 0} → Option CommandLine → (source source_now : I) (sink sink_now : O) (store store_now : D) → Type 0
+LeavesAlone None source source_now sink sink_now store store_now =
+    (source_now ≡ source) × (sink_now ≡ sink) × (store_now ≡ store)
+LeavesAlone (Some (Run settings)) source source_now sink sink_now store store_now = Unit {0}
+LeavesAlone (Some (Demo number)) source source_now sink sink_now store store_now = (source_now ≡ source) × (store_now ≡ store)
+
 -- `Usage` comes only where the arguments ask for nothing, and then it does come, unless there was no memory to read them.
 pub record IsUsage (status : Status) (line : Option CommandLine) : Type 0 where
   pub only : status ≡ Usage → line ≡ None

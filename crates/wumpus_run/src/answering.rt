@@ -26,12 +26,8 @@ use wu_outside::Store;
 use wu_script::{Command, Item, Reply, Why, put_reply};
 use wu_tree::Event;
 
-/// Appends the bytes that answer the item, after which the state is the one that it leaves. The engine is one
-/// that goes on, with addresses left for the item's text, a blob for each unit of work, and a flush. Over an engine and a store that
-/// stand for a state, no blob is called damaged, no stray blob is left, and what is read is read for the item, in turn. Over any other
-/// store a blob is called damaged only where it was broken when the store was opened, no blob that was drawn before is written over, and
-/// the root is the one from before, or its checkpoint is there; on Ok the root's checkpoint has a number that was drawn, if it had one
-/// before.
+/// Appends the bytes of the item's reply, if it has one: what [`reply_to`] answers, and under the
+/// same conditions.
 pub fn answer<D: Store>(
     engine: &mut Engine,
     store: &mut D,
@@ -70,12 +66,13 @@ pub fn answer<D: Store>(
     }
 }
 
-/// The reply to the item, if it has one, after which the state is the one that it leaves. The engine is one
-/// that goes on, with addresses left for the item's text, a blob for each unit of work, and a flush. Over an engine and a store that
-/// stand for a state, no blob is called damaged, no stray blob is left, and what is read is read for the item, in turn. Over any other
-/// store a blob is called damaged only where it was broken when the store was opened, no blob that was drawn before is written over, and
-/// the root is the one from before, or its checkpoint is there; on Ok the root's checkpoint has a number that was drawn, if it had one
-/// before.
+/// The reply to the item, if it has one, after which the state is the one that it leaves. The engine
+/// is one that goes on, with addresses left for the item's text, a blob for each unit of work, and a
+/// flush. Over an engine and a store that stand for a state, no blob is called damaged, no stray blob
+/// is left, and what is read is read for the item, in turn. Over any other store a blob is called
+/// damaged only where it was broken when the store was opened, no blob that was drawn before is
+/// written over, and the root is the one from before, or its checkpoint is there; on Ok the root's
+/// checkpoint has a number that was drawn, if it had one before.
 pub fn reply_to<D: Store>(
     engine: &mut Engine,
     store: &mut D,

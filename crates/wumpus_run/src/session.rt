@@ -1,7 +1,10 @@
 //! A session: the script is read as it comes, and each item is answered in turn.
-ghost use Rattle.std.specs.Prelude.{◌≡◌, ◌≢◌, ◌⊎◌, ℕ, ◌+◌, ◌<◌, ◌≤◌, ◌^◌, max, List, [], Option, None, Some, Err, false, IfOk, IfErr, IfSome, OnErr, OnOk, MatchBool, option_map};
+ghost use Rattle.std.specs.Prelude.{◌≡◌, ◌≢◌, ◌⊎◌, ℕ, ◌+◌, ◌<◌, ◌≤◌, ◌^◌, max, List, [], Option};
+ghost use Rattle.std.specs.Prelude.{None, Some, Err, false, IfOk, IfErr, IfSome, OnErr, OnOk};
+ghost use Rattle.std.specs.Prelude.{MatchBool, option_map};
 ghost use Rattle.std.specs.Io.KnownBytes.{Appends};
-ghost use Rattle.wu_base.specs.declared.limits.TheConstants.{BLOBS_SPENT_AT, INPUT_MAX, READ_MAX, SPENT_AT};
+ghost use Rattle.wu_base.specs.declared.limits.TheConstants.{BLOBS_SPENT_AT, INPUT_MAX, READ_MAX};
+ghost use Rattle.wu_base.specs.declared.limits.TheConstants.{SPENT_AT};
 ghost use Rattle.wu_base.specs.declared.troubles.Trouble.{Trouble};
 ghost use Rattle.wu_outside.specs.Content.{Content};
 ghost use Rattle.wu_outside.specs.Crash.{Moments, settle};
@@ -19,18 +22,24 @@ ghost use Rattle.wu_engine.specs.Crashes.{IsImageOf};
 ghost use Rattle.wu_engine.specs.Going.{Goes, HasBroken};
 ghost use Rattle.wu_engine.specs.Stands.{Stands};
 ghost use Rattle.wu_engine.specs.Earlier.{KeepsCheckpoint, LeavesEarlier};
-ghost use Rattle.wu_engine.specs.Opening.{HasRoot, HoldsImage, IsBeginCause, IsOpen, IsSpentWhere, ReadsAtOpening};
+ghost use Rattle.wu_engine.specs.Opening.{HasRoot, HoldsImage, IsBeginCause, IsOpen, IsSpentWhere};
+ghost use Rattle.wu_engine.specs.Opening.{ReadsAtOpening};
 ghost use Rattle.wu_engine.specs.States.{rested_state, saved_state};
 ghost use Rattle.wu_engine.specs.declared.faults.BeginFault.TheVariants.{Damaged as SavedIsDamaged};
 ghost use Rattle.wumpus_run.specs.Demo.{IfDemo, IsShown};
-ghost use Rattle.wumpus_run.specs.Kept.{AddsDrawnFor, KeepsDrawn, KeepsEitherSave, KeepsRootsCheckpoint, TouchesNoStray};
+ghost use Rattle.wumpus_run.specs.Kept.{AddsDrawnFor, KeepsDrawn, KeepsEitherSave};
+ghost use Rattle.wumpus_run.specs.Kept.{KeepsRootsCheckpoint, TouchesNoStray};
 ghost use Rattle.wumpus_run.specs.Permitted.{AnswersInTurn, ReadsPermitted};
-ghost use Rattle.wumpus_run.specs.Ended.{IsSession, status_of, status_of_fault, status_of_opening, status_of_saving, status_of_trouble};
-ghost use Rattle.wumpus_run.specs.Session.{AnswersAll, AnswersPrefix, AnswersTaken, Completes, FromImage, HasRoom, HoldsNothingBack, IsCounted, IsSpent, IsTooLong, IsUsage, KeepsStrays, LeavesNoStray, OpensAlone, PutsOnlyDrawn, SavesAll, StaysShut, StaysWithin, TakesAll, UnlessTaken, moment, settings_of};
+ghost use Rattle.wumpus_run.specs.Ended.{CallsBroken, IsSession, KeepsBlobs, OpensOnly, status_of};
+ghost use Rattle.wumpus_run.specs.Ended.{status_of_fault, status_of_opening, status_of_saving};
+ghost use Rattle.wumpus_run.specs.Ended.{status_of_trouble};
+ghost use Rattle.wumpus_run.specs.Session.{Completes, FromImage, HasRoom, IsCounted, IsUsage};
+ghost use Rattle.wumpus_run.specs.Session.{KeepsStrays, LeavesAlone, moment, PutsOnlyDrawn};
+ghost use Rattle.wumpus_run.specs.Session.{settings_of, UnlessTaken};
 ghost use Rattle.wumpus_run.specs.Raised.{SavesOnce};
 ghost use Rattle.wumpus_run.specs.Started.{IsStarted, settings_by};
 ghost use Rattle.wumpus_run.specs.Strays.{AddsNoStray};
-ghost use Rattle.wumpus_run.specs.Crashes.{LeavesAcknowledged, LeavesLast, LeavesSaves, Survives, left_to_next};
+ghost use Rattle.wumpus_run.specs.Crashes.{left_to_next, Survives};
 
 use crate::answering::answer;
 use crate::demo::demo;
@@ -56,121 +65,59 @@ pub fn run<I: Source, O: Sink, D: Store>(
     store: &mut D,
 ) -> Status
     requires { I.ended source.old ≡ false }
-    // Usage comes exactly where the arguments ask for nothing, unless there is no memory to read them; then nothing is touched.
+    // Usage comes exactly where the arguments ask for nothing, unless there is no memory to read them.
     ensures usage { IsUsage result (command_line_of (texts_of words.now)) }
-    ensures untouched { (settings_of (texts_of words.now)) ≡ None → (source.new ≡ source.old) × (store.new ≡ store.old) }
-    ensures unwritten { (command_line_of (texts_of words.now)) ≡ None → sink.new ≡ sink.old }
-
+    // What they have no use for isn't touched.
+    ensures untouched { LeavesAlone (command_line_of (texts_of words.now))
+        source.old source.new sink.old sink.new store.old store.new }
     // Where they ask for a demonstration, the sink gained its line, or a prefix of it.
-    ensures demo { IfDemo (command_line_of (texts_of words.now)) (λ number. IsShown number result (O.gained sink.old) (O.gained sink.new)) }
+    ensures demo { IfDemo (command_line_of (texts_of words.now))
+        (λ number. IsShown number result (O.gained sink.old) (O.gained sink.new)) }
 
-    // The input was read to its end, the sink gained the replies to its items, and nothing else, and the store holds an
-    // image of the state after them.
-    ensures all_taken { result ≡ Status.Done → TakesAll (settings_of (texts_of words.now))
+    // What was taken, written and saved, and which statuses come when.
+    ensures session { IsSession result (settings_of (texts_of words.now))
         (moment I.Source O.Sink D.Store source.old sink.old store.old)
         (moment I.Source O.Sink D.Store source.new sink.new store.new) }
-    ensures done { result ≡ Status.Done → FromImage (D.holds store.old) (λ s. AnswersAll s (settings_of (texts_of words.now))
-        (moment I.Source O.Sink D.Store source.old sink.old store.old)
-        (moment I.Source O.Sink D.Store source.new sink.new store.new)) }
-    ensures saved { result ≡ Status.Done → FromImage (D.holds store.old) (λ s. SavesAll s (settings_of (texts_of words.now))
-        (moment I.Source O.Sink D.Store source.old sink.old store.old)
-        (moment I.Source O.Sink D.Store source.new sink.new store.new)) }
-    ensures named { result ≡ Status.Done → FromImage (D.holds store.old) (λ s. LeavesNoStray s (settings_of (texts_of words.now))
-        (moment I.Source O.Sink D.Store source.old sink.old store.old)
-        (moment I.Source O.Sink D.Store source.new sink.new store.new)) }
-
-    // Whatever the status, the first items of the input were answered in turn, and the sink gained their replies and a part of the
-    // next one's.
+    // Whatever the status, the first items of the input were answered in turn, and the sink gained their
+    // replies and a part of the next one's.
     ensures turns { FromImage (D.holds store.old) (λ s. AnswersInTurn s result (settings_of (texts_of words.now))
         (moment I.Source O.Sink D.Store source.old sink.old store.old)
         (moment I.Source O.Sink D.Store source.new sink.new store.new)) }
-
-    // Of the store this was read, in turn: at opening the root's checkpoint and the fronts of its parts, each once, and then item by item
-    // for a query blocks of its terms where her files are and then the texts of which a line is shown, from the first one on, each once,
-    // and for background work blocks of its terms; for any of them it may be fewer, or none. That is so for the items that were answered,
-    // whose replies the sink gained, and for the next one, where it was under way; for a later one nothing was read. A session that ended
-    // at its opening, before it took or wrote a byte, read nothing but some of what an opening reads.
+    // Of the store this was read, in turn: at opening the root's checkpoint and the fronts of its parts, each
+    // once, and then item by item for a query blocks of its terms where her files are and then the texts of
+    // which a line is shown, from the first one on, each once, and for background work blocks of its terms;
+    // for any of them it may be fewer, or none. That is so for the items that were answered, whose replies
+    // the sink gained, and for the next one, where it was under way; for a later one nothing was read. A
+    // session that ended at its opening, before it took or wrote a byte, read nothing but some of what an
+    // opening reads.
     ensures permitted { FromImage (D.holds store.old) (λ s. ReadsPermitted s result (settings_of (texts_of words.now))
         (moment I.Source O.Sink D.Store source.old sink.old store.old)
         (moment I.Source O.Sink D.Store source.new sink.new store.new)
         (D.reads store.old) (D.reads store.new)) }
-
-    // A crash while the session goes on leaves what one could leave before it, or an image of one of its saves. After it a crash
-    // leaves the last save whose reply the sink has, or the next one; after Done what the items leave.
-    ensures crash { FromImage (D.holds store.old) (λ s. LeavesSaves s (settings_of (texts_of words.now))
-        (D.holds store.old) (I.left source.old) (D.moments store.old) (D.moments store.new)) }
-    ensures durable { result ≡ Status.Done → FromImage (D.holds store.old) (λ s. LeavesLast s (settings_of (texts_of words.now))
-        (D.holds store.old) (I.left source.old) (D.moments store.new)) }
-    ensures acknowledged { FromImage (D.holds store.old) (λ s. LeavesAcknowledged s result (settings_of (texts_of words.now))
+    // A crash while the session goes on leaves what one could leave before it, or an image of one of its
+    // saves. After it a crash leaves the last save whose reply the sink has, or the next one; after Done
+    // what the items leave.
+    ensures survives { FromImage (D.holds store.old) (λ s. Survives s result (settings_of (texts_of words.now))
         (moment I.Source O.Sink D.Store source.old sink.old store.old)
         (moment I.Source O.Sink D.Store source.new sink.new store.new)
         (D.moments store.old) (D.moments store.new)) }
-    // Whatever it held, no blob below the root's next one is written over: as long as the root is the one from before all are as they
-    // were, and some are gone only where the root names a checkpoint with a number from that next one on.
-    ensures earlier { (content : Content) → D.holds store.old ≡ Some content → (root : Root) → HasRoot content root
-        → LeavesEarlier root.next_blob (D.holds store.old) (D.holds store.new) }
-    // It has the root that it had, also none, or one whose checkpoint is there, with as many bytes as the root says.
-    ensures checkpoint { KeepsCheckpoint 0 (D.holds store.old) (D.holds store.new) }
-    // Whatever the status, no blob is touched that a session before left below the next one without a name.
-    ensures strays { FromImage (D.holds store.old) (λ s. KeepsStrays s.layout (D.holds store.old) (D.holds store.new)) }
-    // And none is there that wasn't, but those that the state names which the answered items left, and those that may have been drawn for
-    // the next item, or for the save at the end: in all, numbers from the next one on.
-    ensures puts { FromImage (D.holds store.old) (λ s. PutsOnlyDrawn s (settings_of (texts_of words.now))
+    // Whatever it held, no blob below the root's next one was written over, and none is there that wasn't
+    // but those that the items draw.
+    ensures blobs { KeepsBlobs (settings_of (texts_of words.now))
         (moment I.Source O.Sink D.Store source.old sink.old store.old)
-        (moment I.Source O.Sink D.Store source.new sink.new store.new)) }
-    // Before a byte is taken the store is only opened, and that syncs it once.
-    ensures opens { OpensAlone
+        (moment I.Source O.Sink D.Store source.new sink.new store.new) }
+    // A store that was only opened, or couldn't be, holds what it held.
+    ensures opened { OpensOnly result (settings_of (texts_of words.now))
         (moment I.Source O.Sink D.Store source.old sink.old store.old)
         (moment I.Source O.Sink D.Store source.new sink.new store.new)
         (D.moments store.old) (D.moments store.new) }
-    // Where the store leaves no room it holds what it held.
-    ensures unopened { (next : ℕ) → result ≡ Status.Spent next → D.holds store.new ≡ D.holds store.old }
-    // Where what it holds can't be opened, it holds the same afterwards, and no byte was taken or written.
-    ensures shut { StaysShut (settings_of (texts_of words.now))
-        (moment I.Source O.Sink D.Store source.old sink.old store.old)
-        (moment I.Source O.Sink D.Store source.new sink.new store.new) }
-
-    // A fault of the source, the sink or the store ends the session, exactly where its count of faults rose.
-    ensures read_fault { IsCounted Status.ReadFault result (I.faults source.old) (I.faults source.new) }
-    ensures write_fault { IsCounted Status.WriteFault result (O.faults sink.old) (O.faults sink.new) }
-    ensures store_fault { IsCounted Status.StoreFault result (D.faults store.old) (D.faults store.new) }
-    ensures too_long { IsTooLong result (settings_of (texts_of words.now))
-        (moment I.Source O.Sink D.Store source.old sink.old store.old)
-        (moment I.Source O.Sink D.Store source.new sink.new store.new) }
-
-    // A blob is called damaged only where it is broken in what the store held, by the root and by the checkpoint there. A store
-    // that holds an image of a state is never called damaged; it is called spent exactly where it is.
-    ensures damaged { (content : Content) → D.holds store.old ≡ Some content → (blob : ℕ) → result ≡ Status.Damaged blob
-        → HasBroken content blob }
-    ensures undamaged { FromImage (D.holds store.old) (λ s. (blob : ℕ) → result ≡ Status.Damaged blob → ⊥) }
-    ensures spent { IsSpent result (settings_of (texts_of words.now)) (D.holds store.old) }
-
-    // Whatever the status, no byte after the one past the limit was taken, and the sink gained a
-    // prefix of the output, and a prefix of that for the bytes that were taken: where none was it gained nothing.
-    ensures taken { StaysWithin (settings_of (texts_of words.now))
-        (moment I.Source O.Sink D.Store source.old sink.old store.old)
-        (moment I.Source O.Sink D.Store source.new sink.new store.new) }
-    ensures prefix { FromImage (D.holds store.old) (λ s. AnswersPrefix s (settings_of (texts_of words.now))
-        (moment I.Source O.Sink D.Store source.old sink.old store.old)
-        (moment I.Source O.Sink D.Store source.new sink.new store.new)) }
-    ensures only_taken { FromImage (D.holds store.old) (λ s. AnswersTaken s (settings_of (texts_of words.now))
-        (moment I.Source O.Sink D.Store source.old sink.old store.old)
-        (moment I.Source O.Sink D.Store source.new sink.new store.new)) }
+    // A blob is called damaged only where it is broken in what the store held.
+    ensures broken { CallsBroken result (D.holds store.old) }
     // No read that didn't fail asked for more than READ_MAX bytes at once, also of a long text.
     ensures asked { I.most_asked source.new ≤ max (I.most_asked source.old) READ_MAX }
-
-    // No reply was held back: where the source failed or gave too much, the sink gained exactly the
-    // replies to the whole items that the source gave; where sink or store failed or there was no memory,
-    // at least those to the whole items before the bytes of the source's last read, which are at most
-    // READ_MAX where it gave any. Where the store failed, no reply was cut. Over a store that is damaged,
-    // which holds no image, nothing is said of it.
-    ensures prompt { FromImage (D.holds store.old) (λ s. HoldsNothingBack s result (settings_of (texts_of words.now))
-        (moment I.Source O.Sink D.Store source.old sink.old store.old)
-        (moment I.Source O.Sink D.Store source.new sink.new store.new)) }
-
     // Without a fault the session is done, unless there was no memory or the input is too long.
-    ensures complete { ¬ Rose (I.faults source.old) (I.faults source.new) → ¬ Rose (O.faults sink.old) (O.faults sink.new)
-        → ¬ Rose (D.faults store.old) (D.faults store.new)
+    ensures complete { ¬ Rose (I.faults source.old) (I.faults source.new)
+        → ¬ Rose (O.faults sink.old) (O.faults sink.new) → ¬ Rose (D.faults store.old) (D.faults store.new)
         → FromImage (D.holds store.old) (λ s. HasRoom s → Completes result (settings_of (texts_of words.now))
         (moment I.Source O.Sink D.Store source.old sink.old store.old)) }
 {
@@ -192,35 +139,26 @@ fn answer_script<I: Source, O: Sink, D: Store>(
 ) -> Status
     requires goes_on { I.ended source.old ≡ false }
     requires within { settings.max_input ≤ INPUT_MAX }
-    ensures session { IsSession result settings
+    ensures session { IsSession result (Some settings)
         (moment I.Source O.Sink D.Store source.old sink.old store.old)
         (moment I.Source O.Sink D.Store source.new sink.new store.new) }
     ensures permitted { FromImage (D.holds store.old) (λ s. ReadsPermitted s result (Some settings)
         (moment I.Source O.Sink D.Store source.old sink.old store.old)
         (moment I.Source O.Sink D.Store source.new sink.new store.new)
         (D.reads store.old) (D.reads store.new)) }
-    ensures survives { FromImage (D.holds store.old) (λ s. Survives s result settings
+    ensures survives { FromImage (D.holds store.old) (λ s. Survives s result (Some settings)
         (moment I.Source O.Sink D.Store source.old sink.old store.old)
         (moment I.Source O.Sink D.Store source.new sink.new store.new)
         (D.moments store.old) (D.moments store.new)) }
-    ensures earlier { (content : Content) → D.holds store.old ≡ Some content → (root : Root) → HasRoot content root
-        → LeavesEarlier root.next_blob (D.holds store.old) (D.holds store.new) }
-    ensures checkpoint { KeepsCheckpoint 0 (D.holds store.old) (D.holds store.new) }
-    ensures strays { FromImage (D.holds store.old) (λ s. KeepsStrays s.layout (D.holds store.old) (D.holds store.new)) }
-    ensures puts { FromImage (D.holds store.old) (λ s. PutsOnlyDrawn s (Some settings)
+    ensures blobs { KeepsBlobs (Some settings)
         (moment I.Source O.Sink D.Store source.old sink.old store.old)
-        (moment I.Source O.Sink D.Store source.new sink.new store.new)) }
-    ensures opens { OpensAlone
+        (moment I.Source O.Sink D.Store source.new sink.new store.new) }
+    ensures opened { OpensOnly result (Some settings)
         (moment I.Source O.Sink D.Store source.old sink.old store.old)
         (moment I.Source O.Sink D.Store source.new sink.new store.new)
         (D.moments store.old) (D.moments store.new) }
+    ensures broken { CallsBroken result (D.holds store.old) }
     ensures asked { I.most_asked source.new ≤ max (I.most_asked source.old) READ_MAX }
-    ensures unopened { (next : ℕ) → result ≡ Status.Spent next → D.holds store.new ≡ D.holds store.old }
-    ensures shut { StaysShut (Some settings)
-        (moment I.Source O.Sink D.Store source.old sink.old store.old)
-        (moment I.Source O.Sink D.Store source.new sink.new store.new) }
-    ensures broken { (content : Content) → D.holds store.old ≡ Some content → (blob : ℕ) → result ≡ Status.Damaged blob
-        → HasBroken content blob }
 {
     let (mut reader, mut engine) = match start(alloc, settings, store) {
         Ok(start) => start,
@@ -240,7 +178,7 @@ fn answer_items<I: Source, O: Sink, D: Store>(
 ) -> Status
     requires goes_on { I.ended source.old ≡ false }
     requires started { IsStarted reader.old engine.old (D.holds store.old) (D.moments store.old) }
-    ensures session { IsSession result (settings_by reader.old engine.old)
+    ensures session { IsSession result (Some (settings_by reader.old engine.old))
         (moment I.Source O.Sink D.Store source.old sink.old store.old)
         (moment I.Source O.Sink D.Store source.new sink.new store.new) }
     ensures permitted { (reads : Option (List ReadRange)) → IsOpen (D.holds store.old) reads (D.reads store.old)
@@ -249,7 +187,7 @@ fn answer_items<I: Source, O: Sink, D: Store>(
         (moment I.Source O.Sink D.Store source.new sink.new store.new)
         reads (D.reads store.new)) }
     ensures survives { (moments : Option Moments) → Leaves moments (D.moments store.old) (IsLeft moments)
-        → FromImage (D.holds store.old) (λ s. Survives s result (settings_by reader.old engine.old)
+        → FromImage (D.holds store.old) (λ s. Survives s result (Some (settings_by reader.old engine.old))
         (moment I.Source O.Sink D.Store source.old sink.old store.old)
         (moment I.Source O.Sink D.Store source.new sink.new store.new)
         moments (D.moments store.new)) }

@@ -29,17 +29,17 @@ returns-clause-life g c = λ told input old new asked given had has.
           (subst (λ (moments : Option Moments). LeavesSaves s (Some told) before.holds before.left moments
           (g.D.Store.moments c.run.new.store)) had
           (subst (λ (settings : Option Settings). LeavesSaves s settings before.holds before.left
-          (g.D.Store.moments c.args.store.now) (g.D.Store.moments c.run.new.store)) asked (c.run.ensures.crash s image)));
+          (g.D.Store.moments c.args.store.now) (g.D.Store.moments c.run.new.store)) asked ((c.run.ensures.survives s image).crash)));
       durable = λ done s image.
           subst (λ (moments : Option Moments). LeavesLast s (Some told) before.holds before.left moments) has
           (subst (λ (settings : Option Settings). LeavesLast s settings before.holds before.left (g.D.Store.moments c.run.new.store)) asked
-          (c.run.ensures.durable done s image));
+          ((c.run.ensures.survives s image).durable done));
       acknowledged = λ s image.
           subst (λ (moments : Option Moments). LeavesAcknowledged s c.run.result (Some told) before now (Some old) moments) has
           (subst (λ (moments : Option Moments). LeavesAcknowledged s c.run.result (Some told) before now moments
           (g.D.Store.moments c.run.new.store)) had
           (subst (λ (settings : Option Settings). LeavesAcknowledged s c.run.result settings before now
-          (g.D.Store.moments c.args.store.now) (g.D.Store.moments c.run.new.store)) asked (c.run.ensures.acknowledged s image)));
+          (g.D.Store.moments c.args.store.now) (g.D.Store.moments c.run.new.store)) asked ((c.run.ensures.survives s image).acknowledged)));
       alike = subst (λ (moments : Option Moments). AreAlike (g.D.Store.holds c.run.new.store) moments) has
           (g.met.D.Store.told_alike c.run.new.store);
     }

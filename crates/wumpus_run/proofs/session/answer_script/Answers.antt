@@ -11,15 +11,13 @@ use Rattle.wumpus_run.specs.Session.{FromImage, KeepsStrays, Moment, PutsOnlyDra
 use Rattle.wumpus_run.specs.Started.{IsUnspent}
 use Rattle.wumpus_run.proofs.BrokenBlobs.{opening_broken}
 use Rattle.wumpus_run.proofs.CrashesAtEnd.{IsUnopened-fault, Survives-unopened}
-use Rattle.wumpus_run.proofs.EarlierLemmas.{left_alone}
-use Rattle.wumpus_run.proofs.NamedCheckpoints.{checkpoint_same}
 use Rattle.wumpus_run.proofs.OpenedSessions.{made_by, since_opening}
 use Rattle.wumpus_run.proofs.PutsAtEnd.{puts_none}
 use Rattle.wumpus_run.proofs.ReadsAtEnd.{permitted_unopened}
 use Rattle.wumpus_run.proofs.ShutStores.{shut-opened, shut-told}
 use Rattle.wumpus_run.proofs.SpentStores.{IsUnspent-opened}
 use Rattle.wumpus_run.proofs.StartedStates.{IsSession-unopened}
-use Rattle.wumpus_run.proofs.StrayBlobs.{strays_alone}
+use Rattle.wumpus_run.proofs.UnaskedSessions.{blobs_alone}
 use Rattle.wumpus_run.proofs.UntakenBytes.{opens_alone, untaken_so}
 use Rattle.wumpus_run.proofs.session.answer_script.Goals as goal
 
@@ -53,20 +51,6 @@ returns-in-Err-clause-survives g c =
     (g.D.Store.moments c.args.store.now) (g.D.Store.moments c.start.new.store)
     (λ blob e. c.in-Err.ensures.undamaged s image blob (ap Err e)) c.in-Err.ensures.survives)
 
-pub returns-in-Err-clause-unopened : goal.returns-in-Err-clause-unopened
-returns-in-Err-clause-unopened g c = λ next e. c.in-Err.ensures.holds
-
-pub returns-in-Err-clause-shut : goal.returns-in-Err-clause-shut
-returns-in-Err-clause-shut g c = shut-told _ (g.D.Store.holds c.args.store.now) (refl, refl, c.in-Err.ensures.holds)
-
-pub returns-in-Err-clause-earlier : goal.returns-in-Err-clause-earlier
-returns-in-Err-clause-earlier g c =
-    left_alone (g.D.Store.holds c.args.store.now) (g.D.Store.holds c.start.new.store) c.in-Err.ensures.holds
-
-pub returns-in-Err-clause-checkpoint : goal.returns-in-Err-clause-checkpoint
-returns-in-Err-clause-checkpoint g c =
-    checkpoint_same 0 (g.D.Store.holds c.args.store.now) (g.D.Store.holds c.start.new.store) c.in-Err.ensures.holds
-
 pub answer_items-requires-clause-started : goal.answer_items-requires-clause-started
 answer_items-requires-clause-started g c =
     let e = c.in-Ok.ensures in
@@ -91,7 +75,7 @@ returns-clause-session g c =
     let told = c.args.settings in
     let before = moment g.I.Source g.O.Sink g.D.Store c.args.source.now c.args.sink.now c.args.store.now in
     let now = moment g.I.Source g.O.Sink g.D.Store c.answer_items.new.source c.answer_items.new.sink c.answer_items.new.store in
-    since_opening (λ (t : Settings) (m : Moment). IsSession c.answer_items.result t m now) told _ before
+    since_opening (λ (t : Settings) (m : Moment). IsSession c.answer_items.result (Some t) m now) told _ before
     (g.D.Store.holds c.start.new.store) (g.D.Store.faults c.start.new.store)
     (made_by told c.in-Ok.start.0 c.in-Ok.start.1 (ap (λ (held : Held). held.spare) e.reader) e.flush_at) e.holds e.calm
     c.answer_items.ensures.session
@@ -119,65 +103,58 @@ returns-clause-survives g c =
     let now = moment g.I.Source g.O.Sink g.D.Store c.answer_items.new.source c.answer_items.new.sink c.answer_items.new.store in
     let first = g.D.Store.moments c.args.store.now in
     let last = g.D.Store.moments c.answer_items.new.store in
-    since_opening (λ (t : Settings) (m : Moment). FromImage m.holds (λ s. Survives s c.answer_items.result t m now first last)) told _
+    since_opening (λ (t : Settings) (m : Moment). FromImage m.holds (λ s. Survives s c.answer_items.result (Some t) m now first last)) told _
     before (g.D.Store.holds c.start.new.store) (g.D.Store.faults c.start.new.store)
     (made_by told c.in-Ok.start.0 c.in-Ok.start.1 (ap (λ (held : Held). held.spare) e.reader) e.flush_at) e.holds e.calm
     (c.answer_items.ensures.survives first e.survives)
-
-pub returns-clause-earlier : goal.returns-clause-earlier
-returns-clause-earlier g c = λ content told root has.
-    let e = c.in-Ok.ensures in
-    subst (λ (holds : Option Content). LeavesEarlier root.next_blob holds (g.D.Store.holds c.answer_items.new.store)) e.holds
-    (c.answer_items.ensures.earlier content (e.holds ∙ told) root has)
-
-pub returns-clause-checkpoint : goal.returns-clause-checkpoint
-returns-clause-checkpoint g c =
-    subst (λ (holds : Option Content). KeepsCheckpoint 0 holds (g.D.Store.holds c.answer_items.new.store)) c.in-Ok.ensures.holds
-    c.answer_items.ensures.checkpoint
 
 pub returns-clause-broken : goal.returns-clause-broken
 returns-clause-broken g c = λ content told blob is.
     c.answer_items.ensures.broken content (c.in-Ok.ensures.holds ∙ told) blob is
 
-pub returns-clause-unopened : goal.returns-clause-unopened
-returns-clause-unopened g c = λ next is. absurd (c.answer_items.ensures.opened next is)
+pub returns-in-Err-clause-blobs : goal.returns-in-Err-clause-blobs
+returns-in-Err-clause-blobs g c =
+    let before = moment g.I.Source g.O.Sink g.D.Store c.args.source.now c.args.sink.now c.args.store.now in
+    let now = moment g.I.Source g.O.Sink g.D.Store c.args.source.now c.args.sink.now c.start.new.store in
+    blobs_alone (Some c.args.settings) before now c.in-Err.ensures.holds
+    (λ s. puts_none (Some c.args.settings) s before now refl c.in-Err.ensures.holds)
 
-pub returns-clause-shut : goal.returns-clause-shut
-returns-clause-shut g c = shut-opened _ (g.D.Store.holds c.args.store.now) c.in-Ok.ensures.open.0 c.in-Ok.ensures.open.1
+pub returns-in-Err-clause-opened : goal.returns-in-Err-clause-opened
+returns-in-Err-clause-opened g c =
+    let left = g.I.Source.left c.args.source.now in
+    record {
+      opens = untaken_so _ left left (c.in-Err.ensures.holds, c.in-Err.ensures.still);
+      unopened = λ next e. c.in-Err.ensures.holds;
+      shut = shut-told _ (g.D.Store.holds c.args.store.now) (refl, refl, c.in-Err.ensures.holds);
+    }
 
-pub returns-in-Err-clause-strays : goal.returns-in-Err-clause-strays
-returns-in-Err-clause-strays g c = λ s image.
-    strays_alone s.layout (g.D.Store.holds c.args.store.now) (g.D.Store.holds c.start.new.store) c.in-Err.ensures.holds
-
-pub returns-clause-strays : goal.returns-clause-strays
-returns-clause-strays g c =
-    subst (λ (holds : Option Content). FromImage holds (λ s. KeepsStrays s.layout holds (g.D.Store.holds c.answer_items.new.store)))
-    c.in-Ok.ensures.holds c.answer_items.ensures.strays
-
-pub returns-in-Err-clause-opens : goal.returns-in-Err-clause-opens
-returns-in-Err-clause-opens g c =
-    untaken_so _ (g.I.Source.left c.args.source.now) (g.I.Source.left c.args.source.now) (c.in-Err.ensures.holds, c.in-Err.ensures.still)
-
-pub returns-clause-opens : goal.returns-clause-opens
-returns-clause-opens g c =
+pub returns-clause-blobs : goal.returns-clause-blobs
+returns-clause-blobs g c =
     let e = c.in-Ok.ensures in
-    opens_alone (moment g.I.Source g.O.Sink g.D.Store c.args.source.now c.args.sink.now c.args.store.now)
-    (moment g.I.Source g.O.Sink g.D.Store c.answer_items.new.source c.answer_items.new.sink c.answer_items.new.store)
-    (g.D.Store.holds c.start.new.store) (g.D.Store.moments c.args.store.now) (g.D.Store.moments c.start.new.store)
-    (g.D.Store.moments c.answer_items.new.store) e.holds e.settled c.answer_items.ensures.untaken
-
-pub returns-in-Err-clause-puts : goal.returns-in-Err-clause-puts
-returns-in-Err-clause-puts g c = λ s image.
-    puts_none (Some c.args.settings) s (moment g.I.Source g.O.Sink g.D.Store c.args.source.now c.args.sink.now c.args.store.now)
-    (moment g.I.Source g.O.Sink g.D.Store c.args.source.now c.args.sink.now c.start.new.store) refl c.in-Err.ensures.holds
-
-pub returns-clause-puts : goal.returns-clause-puts
-returns-clause-puts g c =
-    let e = c.in-Ok.ensures in
+    let r = c.answer_items.ensures in
     let told = c.args.settings in
     let before = moment g.I.Source g.O.Sink g.D.Store c.args.source.now c.args.sink.now c.args.store.now in
     let now = moment g.I.Source g.O.Sink g.D.Store c.answer_items.new.source c.answer_items.new.sink c.answer_items.new.store in
-    since_opening (λ (t : Settings) (m : Moment). FromImage m.holds (λ s. PutsOnlyDrawn s (Some t) m now)) told _ before
-    (g.D.Store.holds c.start.new.store) (g.D.Store.faults c.start.new.store)
-    (made_by told c.in-Ok.start.0 c.in-Ok.start.1 (ap (λ (held : Held). held.spare) e.reader) e.flush_at) e.holds e.calm
-    c.answer_items.ensures.puts
+    record {
+      earlier = λ content held root has.
+          subst (λ (holds : Option Content). LeavesEarlier root.next_blob holds now.holds) e.holds
+          (r.earlier content (e.holds ∙ held) root has);
+      checkpoint = subst (λ (holds : Option Content). KeepsCheckpoint 0 holds now.holds) e.holds r.checkpoint;
+      strays = subst (λ (holds : Option Content). FromImage holds (λ s. KeepsStrays s.layout holds now.holds)) e.holds r.strays;
+      puts = since_opening (λ (t : Settings) (m : Moment). FromImage m.holds (λ s. PutsOnlyDrawn s (Some t) m now)) told _ before
+          (g.D.Store.holds c.start.new.store) (g.D.Store.faults c.start.new.store)
+          (made_by told c.in-Ok.start.0 c.in-Ok.start.1 (ap (λ (held : Held). held.spare) e.reader) e.flush_at) e.holds e.calm r.puts;
+    }
+
+pub returns-clause-opened : goal.returns-clause-opened
+returns-clause-opened g c =
+    let e = c.in-Ok.ensures in
+    let before = moment g.I.Source g.O.Sink g.D.Store c.args.source.now c.args.sink.now c.args.store.now in
+    let now = moment g.I.Source g.O.Sink g.D.Store c.answer_items.new.source c.answer_items.new.sink c.answer_items.new.store in
+    record {
+      opens = opens_alone before now (g.D.Store.holds c.start.new.store) (g.D.Store.moments c.args.store.now)
+          (g.D.Store.moments c.start.new.store) (g.D.Store.moments c.answer_items.new.store) e.holds e.settled
+          c.answer_items.ensures.untaken;
+      unopened = λ next is. absurd (c.answer_items.ensures.opened next is);
+      shut = shut-opened _ (g.D.Store.holds c.args.store.now) e.open.0 e.open.1;
+    }

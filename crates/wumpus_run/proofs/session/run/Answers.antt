@@ -1,25 +1,69 @@
-use Rattle.std.proofs.Common.{Option, Some, inl, refl, sym, ap, ◌∙◌, subst}
+use Rattle.std.proofs.Common.{Option, Some, ap, refl, sym, ◌∙◌, subst}
 use Rattle.wu_options.specs.CommandLines.{command_line_of, texts_of}
+use Rattle.wu_options.specs.declared.command_lines.CommandLine.TheVariants.{Run, Demo}
 use Rattle.wu_options.specs.declared.command_lines.Settings.{Settings}
-use Rattle.wumpus_run.specs.Permitted.{AnswersInTurn}
-use Rattle.wumpus_run.specs.Session.{moment, settings_of, Completes}
-use Rattle.wumpus_run.specs.declared.statuses.Status.TheVariants.{NoMemory, ReadFault, StoreFault}
-use Rattle.wumpus_run.proofs.DemoLemmas.{nothing-shown, other-calm}
-use Rattle.wumpus_run.proofs.CrashesAtEnd.{LeavesAcknowledged-untouched, LeavesSaves-untouched}
+use Rattle.wumpus_run.specs.Crashes.{Survives}
+use Rattle.wumpus_run.specs.Ended.{IsSession, KeepsBlobs, OpensOnly}
+use Rattle.wumpus_run.specs.Permitted.{AnswersInTurn, ReadsPermitted}
+use Rattle.wumpus_run.specs.Session.{moment, settings_of, Completes, LeavesAlone}
+use Rattle.wumpus_run.specs.declared.statuses.Status.TheVariants.{NoMemory, Usage}
+use Rattle.wumpus_run.proofs.DemoLemmas.{nothing-shown}
 use Rattle.wumpus_run.proofs.SettingLimits.{input_within, settings_asked}
-use Rattle.wumpus_run.proofs.EarlierLemmas.{left_alone}
-use Rattle.wumpus_run.proofs.TakenAtEnd.{Completes-all, IsTooLong-none}
-use Rattle.wumpus_run.proofs.PromptAtEnd.{AnswersAllButOneRead-untouched}
-use Rattle.wumpus_run.proofs.TakenReplies.{AnswersTaken-untouched}
-use Rattle.wumpus_run.proofs.PutsAtEnd.{puts_none}
+use Rattle.wumpus_run.proofs.TakenAtEnd.{Completes-all}
 use Rattle.wumpus_run.proofs.RootRoom.{has_room}
-use Rattle.wumpus_run.proofs.NamedCheckpoints.{checkpoint_same}
 use Rattle.wumpus_run.proofs.AnsweredTurns.{answered-turns}
+use Rattle.wumpus_run.proofs.PutsAtEnd.{puts_none}
 use Rattle.wumpus_run.proofs.ReadsAtEnd.{permitted_untouched}
-use Rattle.wumpus_run.proofs.ShutStores.{shut-unread}
-use Rattle.wumpus_run.proofs.StrayBlobs.{strays_alone}
-use Rattle.wumpus_run.proofs.UntakenBytes.{untaken_so}
+use Rattle.wumpus_run.proofs.UnaskedSessions.{all_alone, alone_unasked, alone_unread, blobs_alone, blobs_unasked, by_line}
+use Rattle.wumpus_run.proofs.UnaskedSessions.{demo_asked, demo_only, none_told}
+use Rattle.wumpus_run.proofs.UnaskedSessions.{nothing_asked, permitted_unasked, session_unasked, survives_unasked, turns_unasked}
+use Rattle.wumpus_run.proofs.UnaskedSessions.{unread_session, unread_survives, usage_only}
 use Rattle.wumpus_run.proofs.session.run.Goals as goal
+
+-- ---- the arguments couldn't be read
+
+pub returns-in-Err-clause-demo : goal.returns-in-Err-clause-demo
+returns-in-Err-clause-demo g c = nothing-shown (command_line_of (texts_of c.args.words.now)) (g.O.Sink.gained c.args.sink.now)
+
+pub returns-in-Err-clause-session : goal.returns-in-Err-clause-session
+returns-in-Err-clause-session g c =
+    unread_session (settings_of (texts_of c.args.words.now))
+    (moment g.I.Source g.O.Sink g.D.Store c.args.source.now c.args.sink.now c.args.store.now)
+
+pub returns-in-Err-clause-turns : goal.returns-in-Err-clause-turns
+returns-in-Err-clause-turns g c =
+    let before = moment g.I.Source g.O.Sink g.D.Store c.args.source.now c.args.sink.now c.args.store.now in
+    let reads = g.D.Store.reads c.args.store.now in
+    λ s image.
+    answered-turns s NoMemory (settings_of (texts_of c.args.words.now)) before before reads reads image
+    (permitted_untouched s (settings_of (texts_of c.args.words.now)) before reads)
+
+pub returns-in-Err-clause-permitted : goal.returns-in-Err-clause-permitted
+returns-in-Err-clause-permitted g c = λ s image.
+    permitted_untouched s (settings_of (texts_of c.args.words.now))
+    (moment g.I.Source g.O.Sink g.D.Store c.args.source.now c.args.sink.now c.args.store.now) (g.D.Store.reads c.args.store.now)
+
+pub returns-in-Err-clause-survives : goal.returns-in-Err-clause-survives
+returns-in-Err-clause-survives g c = λ s image.
+    unread_survives s (settings_of (texts_of c.args.words.now))
+    (moment g.I.Source g.O.Sink g.D.Store c.args.source.now c.args.sink.now c.args.store.now) (g.D.Store.moments c.args.store.now)
+
+pub returns-in-Err-clause-blobs : goal.returns-in-Err-clause-blobs
+returns-in-Err-clause-blobs g c =
+    let before = moment g.I.Source g.O.Sink g.D.Store c.args.source.now c.args.sink.now c.args.store.now in
+    let asked = settings_of (texts_of c.args.words.now) in
+    blobs_alone asked before before refl (λ s. puts_none asked s before before refl refl)
+
+pub returns-in-Err-clause-opened : goal.returns-in-Err-clause-opened
+returns-in-Err-clause-opened g c =
+    alone_unread NoMemory (settings_of (texts_of c.args.words.now))
+    (moment g.I.Source g.O.Sink g.D.Store c.args.source.now c.args.sink.now c.args.store.now) (g.D.Store.moments c.args.store.now)
+
+pub returns-in-Err-clause-untouched : goal.returns-in-Err-clause-untouched
+returns-in-Err-clause-untouched g c =
+    all_alone (command_line_of (texts_of c.args.words.now)) c.args.source.now c.args.sink.now c.args.store.now
+
+-- ---- a session
 
 pub answer_script-requires-clause-within : goal.answer_script-requires-clause-within
 answer_script-requires-clause-within g c =
@@ -38,7 +82,7 @@ returns-in-Ok-Some-Run-clause-complete g c =
     (moment g.I.Source g.O.Sink g.D.Store c.args.source.now c.args.sink.now c.args.store.now)
     (moment g.I.Source g.O.Sink g.D.Store c.answer_script.new.source c.answer_script.new.sink c.answer_script.new.store)
     (record {
-      usage = c.answer_script.ensures.session.usage;
+      usage = λ e. none_told ran.settings (c.answer_script.ensures.session.usage e);
       read = λ e. read (c.answer_script.ensures.session.read_fault.rose e);
       write = λ e. write (c.answer_script.ensures.session.write_fault.rose e);
       store = λ e. store (c.answer_script.ensures.session.store_fault.rose e);
@@ -46,107 +90,14 @@ returns-in-Ok-Some-Run-clause-complete g c =
       spent = λ next e. has_room (g.D.Store.holds c.args.store.now) s image room next (c.answer_script.ensures.session.spent.only next e);
     }) c.answer_script.ensures.session.all_taken c.answer_script.ensures.session.too_long)
 
-pub returns-in-Err-clause-too_long : goal.returns-in-Err-clause-too_long
-returns-in-Err-clause-too_long g c =
-    IsTooLong-none NoMemory (settings_of (texts_of c.args.words.now))
-    (moment g.I.Source g.O.Sink g.D.Store c.args.source.now c.args.sink.now c.args.store.now) (λ e. (cc))
-
-pub returns-in-Err-clause-prompt : goal.returns-in-Err-clause-prompt
-returns-in-Err-clause-prompt g c =
-    λ s image. AnswersAllButOneRead-untouched s (settings_of (texts_of c.args.words.now))
-    (moment g.I.Source g.O.Sink g.D.Store c.args.source.now c.args.sink.now c.args.store.now)
-
-pub returns-in-Err-clause-only_taken : goal.returns-in-Err-clause-only_taken
-returns-in-Err-clause-only_taken g c =
-    λ s image. AnswersTaken-untouched s (settings_of (texts_of c.args.words.now))
-    (moment g.I.Source g.O.Sink g.D.Store c.args.source.now c.args.sink.now c.args.store.now)
-
-pub returns-in-Err-clause-permitted : goal.returns-in-Err-clause-permitted
-returns-in-Err-clause-permitted g c = λ s image.
-    permitted_untouched s (settings_of (texts_of c.args.words.now))
-    (moment g.I.Source g.O.Sink g.D.Store c.args.source.now c.args.sink.now c.args.store.now) (g.D.Store.reads c.args.store.now)
-
-pub returns-in-Err-clause-crash : goal.returns-in-Err-clause-crash
-returns-in-Err-clause-crash g c = λ s image.
-    LeavesSaves-untouched s (settings_of (texts_of c.args.words.now)) (g.D.Store.holds c.args.store.now) (g.I.Source.left c.args.source.now)
-    (g.D.Store.moments c.args.store.now)
-
-pub returns-in-Err-clause-acknowledged : goal.returns-in-Err-clause-acknowledged
-returns-in-Err-clause-acknowledged g c = λ s image.
-    LeavesAcknowledged-untouched s (settings_of (texts_of c.args.words.now))
-    (moment g.I.Source g.O.Sink g.D.Store c.args.source.now c.args.sink.now c.args.store.now) (g.D.Store.moments c.args.store.now)
-
-pub returns-in-Err-clause-shut : goal.returns-in-Err-clause-shut
-returns-in-Err-clause-shut g c =
-    shut-unread _ (settings_of (texts_of c.args.words.now)) (g.D.Store.holds c.args.store.now) (refl, refl, refl)
-
-pub returns-in-Err-clause-earlier : goal.returns-in-Err-clause-earlier
-returns-in-Err-clause-earlier g c = left_alone (g.D.Store.holds c.args.store.now) (g.D.Store.holds c.args.store.now) refl
-
-pub returns-in-Ok-None-clause-earlier : goal.returns-in-Ok-None-clause-earlier
-returns-in-Ok-None-clause-earlier g c = left_alone (g.D.Store.holds c.args.store.now) (g.D.Store.holds c.args.store.now) refl
-
-pub returns-in-Ok-Some-Demo-clause-earlier : goal.returns-in-Ok-Some-Demo-clause-earlier
-returns-in-Ok-Some-Demo-clause-earlier g c = left_alone (g.D.Store.holds c.args.store.now) (g.D.Store.holds c.args.store.now) refl
-
-pub returns-in-Err-clause-checkpoint : goal.returns-in-Err-clause-checkpoint
-returns-in-Err-clause-checkpoint g c = checkpoint_same 0 (g.D.Store.holds c.args.store.now) (g.D.Store.holds c.args.store.now) refl
-
-pub returns-in-Ok-None-clause-checkpoint : goal.returns-in-Ok-None-clause-checkpoint
-returns-in-Ok-None-clause-checkpoint g c = checkpoint_same 0 (g.D.Store.holds c.args.store.now) (g.D.Store.holds c.args.store.now) refl
-
-pub returns-in-Ok-Some-Demo-clause-checkpoint : goal.returns-in-Ok-Some-Demo-clause-checkpoint
-returns-in-Ok-Some-Demo-clause-checkpoint g c = checkpoint_same 0 (g.D.Store.holds c.args.store.now) (g.D.Store.holds c.args.store.now) refl
-
-pub returns-in-Err-clause-demo : goal.returns-in-Err-clause-demo
-returns-in-Err-clause-demo g c = nothing-shown (command_line_of (texts_of c.args.words.now)) (g.O.Sink.gained c.args.sink.now)
-
-pub returns-in-Ok-Some-Demo-clause-read_fault : goal.returns-in-Ok-Some-Demo-clause-read_fault
-returns-in-Ok-Some-Demo-clause-read_fault g c =
-    other-calm c.in-Ok-Some-Demo.number ReadFault c.demo.result (g.O.Sink.gained c.args.sink.now) (g.O.Sink.gained c.demo.new.sink)
-    (g.I.Source.faults c.args.source.now) c.demo.ensures.shown (λ e. cc) (λ e. cc) (λ e. cc)
-
-pub returns-in-Ok-Some-Demo-clause-store_fault : goal.returns-in-Ok-Some-Demo-clause-store_fault
-returns-in-Ok-Some-Demo-clause-store_fault g c =
-    other-calm c.in-Ok-Some-Demo.number StoreFault c.demo.result (g.O.Sink.gained c.args.sink.now) (g.O.Sink.gained c.demo.new.sink)
-    (g.D.Store.faults c.args.store.now) c.demo.ensures.shown (λ e. cc) (λ e. cc) (λ e. cc)
-
-pub returns-in-Err-clause-strays : goal.returns-in-Err-clause-strays
-returns-in-Err-clause-strays g c = λ s image.
-    strays_alone s.layout (g.D.Store.holds c.args.store.now) (g.D.Store.holds c.args.store.now) refl
-
-pub returns-in-Err-clause-opens : goal.returns-in-Err-clause-opens
-returns-in-Err-clause-opens g c =
-    untaken_so _ (g.I.Source.left c.args.source.now) (g.I.Source.left c.args.source.now) (refl, inl refl)
-
-pub returns-in-Ok-None-clause-strays : goal.returns-in-Ok-None-clause-strays
-returns-in-Ok-None-clause-strays g c = λ s image.
-    strays_alone s.layout (g.D.Store.holds c.args.store.now) (g.D.Store.holds c.args.store.now) refl
-
-pub returns-in-Ok-None-clause-opens : goal.returns-in-Ok-None-clause-opens
-returns-in-Ok-None-clause-opens g c =
-    untaken_so _ (g.I.Source.left c.args.source.now) (g.I.Source.left c.args.source.now) (refl, inl refl)
-
-pub returns-in-Ok-Some-Demo-clause-strays : goal.returns-in-Ok-Some-Demo-clause-strays
-returns-in-Ok-Some-Demo-clause-strays g c = λ s image.
-    strays_alone s.layout (g.D.Store.holds c.args.store.now) (g.D.Store.holds c.args.store.now) refl
-
-pub returns-in-Ok-Some-Demo-clause-opens : goal.returns-in-Ok-Some-Demo-clause-opens
-returns-in-Ok-Some-Demo-clause-opens g c =
-    untaken_so _ (g.I.Source.left c.args.source.now) (g.I.Source.left c.args.source.now) (refl, inl refl)
-
-pub returns-in-Err-clause-puts : goal.returns-in-Err-clause-puts
-returns-in-Err-clause-puts g c = λ s image.
+pub returns-in-Ok-Some-Run-clause-session : goal.returns-in-Ok-Some-Run-clause-session
+returns-in-Ok-Some-Run-clause-session g c =
+    let ran = c.in-Ok-Some-Run in
     let before = moment g.I.Source g.O.Sink g.D.Store c.args.source.now c.args.sink.now c.args.store.now in
-    puts_none (settings_of (texts_of c.args.words.now)) s before before refl refl
-
-pub returns-in-Err-clause-turns : goal.returns-in-Err-clause-turns
-returns-in-Err-clause-turns g c =
-    let before = moment g.I.Source g.O.Sink g.D.Store c.args.source.now c.args.sink.now c.args.store.now in
-    let reads = g.D.Store.reads c.args.store.now in
-    λ s image.
-    answered-turns s NoMemory (settings_of (texts_of c.args.words.now)) before before reads reads image
-    (permitted_untouched s (settings_of (texts_of c.args.words.now)) before reads)
+    let now = moment g.I.Source g.O.Sink g.D.Store c.answer_script.new.source c.answer_script.new.sink c.answer_script.new.store in
+    let asked = settings_asked ran.field-0 (texts_of c.args.words.now) ran.settings
+    (ran.field-0-is ∙ ap Some ran.field-0-0-is) ran.ensures in
+    subst (λ (told : Option Settings). IsSession c.answer_script.result told before now) (sym asked) c.answer_script.ensures.session
 
 pub returns-in-Ok-Some-Run-clause-turns : goal.returns-in-Ok-Some-Run-clause-turns
 returns-in-Ok-Some-Run-clause-turns g c =
@@ -159,3 +110,169 @@ returns-in-Ok-Some-Run-clause-turns g c =
     subst (λ (told : Option Settings). AnswersInTurn s c.answer_script.result told before now) (sym asked)
     (answered-turns s c.answer_script.result (Some ran.settings) before now (g.D.Store.reads c.args.store.now)
     (g.D.Store.reads c.answer_script.new.store) image (c.answer_script.ensures.permitted s image))
+
+pub returns-in-Ok-Some-Run-clause-permitted : goal.returns-in-Ok-Some-Run-clause-permitted
+returns-in-Ok-Some-Run-clause-permitted g c =
+    let ran = c.in-Ok-Some-Run in
+    let before = moment g.I.Source g.O.Sink g.D.Store c.args.source.now c.args.sink.now c.args.store.now in
+    let now = moment g.I.Source g.O.Sink g.D.Store c.answer_script.new.source c.answer_script.new.sink c.answer_script.new.store in
+    let asked = settings_asked ran.field-0 (texts_of c.args.words.now) ran.settings
+    (ran.field-0-is ∙ ap Some ran.field-0-0-is) ran.ensures in
+    λ s image.
+    subst (λ (told : Option Settings). ReadsPermitted s c.answer_script.result told before now (g.D.Store.reads c.args.store.now)
+    (g.D.Store.reads c.answer_script.new.store)) (sym asked) (c.answer_script.ensures.permitted s image)
+
+pub returns-in-Ok-Some-Run-clause-survives : goal.returns-in-Ok-Some-Run-clause-survives
+returns-in-Ok-Some-Run-clause-survives g c =
+    let ran = c.in-Ok-Some-Run in
+    let before = moment g.I.Source g.O.Sink g.D.Store c.args.source.now c.args.sink.now c.args.store.now in
+    let now = moment g.I.Source g.O.Sink g.D.Store c.answer_script.new.source c.answer_script.new.sink c.answer_script.new.store in
+    let asked = settings_asked ran.field-0 (texts_of c.args.words.now) ran.settings
+    (ran.field-0-is ∙ ap Some ran.field-0-0-is) ran.ensures in
+    λ s image.
+    subst (λ (told : Option Settings). Survives s c.answer_script.result told before now (g.D.Store.moments c.args.store.now)
+    (g.D.Store.moments c.answer_script.new.store)) (sym asked) (c.answer_script.ensures.survives s image)
+
+pub returns-in-Ok-Some-Run-clause-blobs : goal.returns-in-Ok-Some-Run-clause-blobs
+returns-in-Ok-Some-Run-clause-blobs g c =
+    let ran = c.in-Ok-Some-Run in
+    let before = moment g.I.Source g.O.Sink g.D.Store c.args.source.now c.args.sink.now c.args.store.now in
+    let now = moment g.I.Source g.O.Sink g.D.Store c.answer_script.new.source c.answer_script.new.sink c.answer_script.new.store in
+    let asked = settings_asked ran.field-0 (texts_of c.args.words.now) ran.settings
+    (ran.field-0-is ∙ ap Some ran.field-0-0-is) ran.ensures in
+    subst (λ (told : Option Settings). KeepsBlobs told before now) (sym asked) c.answer_script.ensures.blobs
+
+pub returns-in-Ok-Some-Run-clause-opened : goal.returns-in-Ok-Some-Run-clause-opened
+returns-in-Ok-Some-Run-clause-opened g c =
+    let ran = c.in-Ok-Some-Run in
+    let before = moment g.I.Source g.O.Sink g.D.Store c.args.source.now c.args.sink.now c.args.store.now in
+    let now = moment g.I.Source g.O.Sink g.D.Store c.answer_script.new.source c.answer_script.new.sink c.answer_script.new.store in
+    let asked = settings_asked ran.field-0 (texts_of c.args.words.now) ran.settings
+    (ran.field-0-is ∙ ap Some ran.field-0-0-is) ran.ensures in
+    subst (λ (told : Option Settings). OpensOnly c.answer_script.result told before now (g.D.Store.moments c.args.store.now)
+    (g.D.Store.moments c.answer_script.new.store)) (sym asked) c.answer_script.ensures.opened
+
+-- ---- nothing is asked for
+
+pub returns-in-Ok-None-clause-session : goal.returns-in-Ok-None-clause-session
+returns-in-Ok-None-clause-session g c =
+    let before = moment g.I.Source g.O.Sink g.D.Store c.args.source.now c.args.sink.now c.args.store.now in
+    let now = moment g.I.Source g.O.Sink g.D.Store c.args.source.now c.args.sink.now c.args.store.now in
+    let told = settings_of (texts_of c.args.words.now) in
+    let none = nothing_asked _ (texts_of c.args.words.now) c.in-Ok-None.field-0-is c.in-Ok-None.ensures in
+    session_unasked Usage told none before now
+    (usage_only before)
+
+pub returns-in-Ok-None-clause-turns : goal.returns-in-Ok-None-clause-turns
+returns-in-Ok-None-clause-turns g c =
+    let before = moment g.I.Source g.O.Sink g.D.Store c.args.source.now c.args.sink.now c.args.store.now in
+    let now = moment g.I.Source g.O.Sink g.D.Store c.args.source.now c.args.sink.now c.args.store.now in
+    let told = settings_of (texts_of c.args.words.now) in
+    let none = nothing_asked _ (texts_of c.args.words.now) c.in-Ok-None.field-0-is c.in-Ok-None.ensures in
+    λ s image. turns_unasked Usage told none before now s
+
+pub returns-in-Ok-None-clause-permitted : goal.returns-in-Ok-None-clause-permitted
+returns-in-Ok-None-clause-permitted g c =
+    let before = moment g.I.Source g.O.Sink g.D.Store c.args.source.now c.args.sink.now c.args.store.now in
+    let now = moment g.I.Source g.O.Sink g.D.Store c.args.source.now c.args.sink.now c.args.store.now in
+    let told = settings_of (texts_of c.args.words.now) in
+    let none = nothing_asked _ (texts_of c.args.words.now) c.in-Ok-None.field-0-is c.in-Ok-None.ensures in
+    λ s image. permitted_unasked Usage told none before now s _ _
+
+pub returns-in-Ok-None-clause-survives : goal.returns-in-Ok-None-clause-survives
+returns-in-Ok-None-clause-survives g c =
+    let before = moment g.I.Source g.O.Sink g.D.Store c.args.source.now c.args.sink.now c.args.store.now in
+    let now = moment g.I.Source g.O.Sink g.D.Store c.args.source.now c.args.sink.now c.args.store.now in
+    let told = settings_of (texts_of c.args.words.now) in
+    let none = nothing_asked _ (texts_of c.args.words.now) c.in-Ok-None.field-0-is c.in-Ok-None.ensures in
+    λ s image. survives_unasked Usage told none before now s _ _
+
+pub returns-in-Ok-None-clause-blobs : goal.returns-in-Ok-None-clause-blobs
+returns-in-Ok-None-clause-blobs g c =
+    let before = moment g.I.Source g.O.Sink g.D.Store c.args.source.now c.args.sink.now c.args.store.now in
+    let now = moment g.I.Source g.O.Sink g.D.Store c.args.source.now c.args.sink.now c.args.store.now in
+    let told = settings_of (texts_of c.args.words.now) in
+    let none = nothing_asked _ (texts_of c.args.words.now) c.in-Ok-None.field-0-is c.in-Ok-None.ensures in
+    blobs_unasked Usage told none before now refl
+
+pub returns-in-Ok-None-clause-opened : goal.returns-in-Ok-None-clause-opened
+returns-in-Ok-None-clause-opened g c =
+    let before = moment g.I.Source g.O.Sink g.D.Store c.args.source.now c.args.sink.now c.args.store.now in
+    let now = moment g.I.Source g.O.Sink g.D.Store c.args.source.now c.args.sink.now c.args.store.now in
+    let told = settings_of (texts_of c.args.words.now) in
+    let none = nothing_asked _ (texts_of c.args.words.now) c.in-Ok-None.field-0-is c.in-Ok-None.ensures in
+    alone_unasked Usage told none before now refl refl _ _ refl
+
+-- ---- a demonstration
+
+pub returns-in-Ok-Some-Demo-clause-session : goal.returns-in-Ok-Some-Demo-clause-session
+returns-in-Ok-Some-Demo-clause-session g c =
+    let before = moment g.I.Source g.O.Sink g.D.Store c.args.source.now c.args.sink.now c.args.store.now in
+    let now = moment g.I.Source g.O.Sink g.D.Store c.args.source.now c.demo.new.sink c.args.store.now in
+    let told = settings_of (texts_of c.args.words.now) in
+    let none = demo_asked _ (texts_of c.args.words.now) c.in-Ok-Some-Demo.number (c.in-Ok-Some-Demo.field-0-is ∙ ap Some c.in-Ok-Some-Demo.field-0-0-is)
+    c.in-Ok-Some-Demo.ensures in
+    session_unasked c.demo.result told none before now
+    (demo_only c.in-Ok-Some-Demo.number c.demo.result before now refl refl c.demo.ensures.shown c.demo.ensures.write_fault)
+
+pub returns-in-Ok-Some-Demo-clause-turns : goal.returns-in-Ok-Some-Demo-clause-turns
+returns-in-Ok-Some-Demo-clause-turns g c =
+    let before = moment g.I.Source g.O.Sink g.D.Store c.args.source.now c.args.sink.now c.args.store.now in
+    let now = moment g.I.Source g.O.Sink g.D.Store c.args.source.now c.demo.new.sink c.args.store.now in
+    let told = settings_of (texts_of c.args.words.now) in
+    let none = demo_asked _ (texts_of c.args.words.now) c.in-Ok-Some-Demo.number (c.in-Ok-Some-Demo.field-0-is ∙ ap Some c.in-Ok-Some-Demo.field-0-0-is)
+    c.in-Ok-Some-Demo.ensures in
+    λ s image. turns_unasked c.demo.result told none before now s
+
+pub returns-in-Ok-Some-Demo-clause-permitted : goal.returns-in-Ok-Some-Demo-clause-permitted
+returns-in-Ok-Some-Demo-clause-permitted g c =
+    let before = moment g.I.Source g.O.Sink g.D.Store c.args.source.now c.args.sink.now c.args.store.now in
+    let now = moment g.I.Source g.O.Sink g.D.Store c.args.source.now c.demo.new.sink c.args.store.now in
+    let told = settings_of (texts_of c.args.words.now) in
+    let none = demo_asked _ (texts_of c.args.words.now) c.in-Ok-Some-Demo.number (c.in-Ok-Some-Demo.field-0-is ∙ ap Some c.in-Ok-Some-Demo.field-0-0-is)
+    c.in-Ok-Some-Demo.ensures in
+    λ s image. permitted_unasked c.demo.result told none before now s _ _
+
+pub returns-in-Ok-Some-Demo-clause-survives : goal.returns-in-Ok-Some-Demo-clause-survives
+returns-in-Ok-Some-Demo-clause-survives g c =
+    let before = moment g.I.Source g.O.Sink g.D.Store c.args.source.now c.args.sink.now c.args.store.now in
+    let now = moment g.I.Source g.O.Sink g.D.Store c.args.source.now c.demo.new.sink c.args.store.now in
+    let told = settings_of (texts_of c.args.words.now) in
+    let none = demo_asked _ (texts_of c.args.words.now) c.in-Ok-Some-Demo.number (c.in-Ok-Some-Demo.field-0-is ∙ ap Some c.in-Ok-Some-Demo.field-0-0-is)
+    c.in-Ok-Some-Demo.ensures in
+    λ s image. survives_unasked c.demo.result told none before now s _ _
+
+pub returns-in-Ok-Some-Demo-clause-blobs : goal.returns-in-Ok-Some-Demo-clause-blobs
+returns-in-Ok-Some-Demo-clause-blobs g c =
+    let before = moment g.I.Source g.O.Sink g.D.Store c.args.source.now c.args.sink.now c.args.store.now in
+    let now = moment g.I.Source g.O.Sink g.D.Store c.args.source.now c.demo.new.sink c.args.store.now in
+    let told = settings_of (texts_of c.args.words.now) in
+    let none = demo_asked _ (texts_of c.args.words.now) c.in-Ok-Some-Demo.number (c.in-Ok-Some-Demo.field-0-is ∙ ap Some c.in-Ok-Some-Demo.field-0-0-is)
+    c.in-Ok-Some-Demo.ensures in
+    blobs_unasked c.demo.result told none before now refl
+
+pub returns-in-Ok-Some-Demo-clause-opened : goal.returns-in-Ok-Some-Demo-clause-opened
+returns-in-Ok-Some-Demo-clause-opened g c =
+    let before = moment g.I.Source g.O.Sink g.D.Store c.args.source.now c.args.sink.now c.args.store.now in
+    let now = moment g.I.Source g.O.Sink g.D.Store c.args.source.now c.demo.new.sink c.args.store.now in
+    let told = settings_of (texts_of c.args.words.now) in
+    let none = demo_asked _ (texts_of c.args.words.now) c.in-Ok-Some-Demo.number (c.in-Ok-Some-Demo.field-0-is ∙ ap Some c.in-Ok-Some-Demo.field-0-0-is)
+    c.in-Ok-Some-Demo.ensures in
+    alone_unasked c.demo.result told none before now refl refl _ _ refl
+
+pub returns-in-Ok-None-clause-untouched : goal.returns-in-Ok-None-clause-untouched
+returns-in-Ok-None-clause-untouched g c =
+    all_alone (command_line_of (texts_of c.args.words.now)) c.args.source.now c.args.sink.now c.args.store.now
+
+pub returns-in-Ok-Some-Demo-clause-untouched : goal.returns-in-Ok-Some-Demo-clause-untouched
+returns-in-Ok-Some-Demo-clause-untouched g c =
+    let is = c.in-Ok-Some-Demo in
+    by_line (λ line. LeavesAlone line c.args.source.now c.args.source.now c.args.sink.now c.demo.new.sink c.args.store.now c.args.store.now)
+    is.field-0 (texts_of c.args.words.now) (Some (Demo is.number)) (is.field-0-is ∙ ap Some is.field-0-0-is) is.ensures (refl, refl)
+
+pub returns-in-Ok-Some-Run-clause-untouched : goal.returns-in-Ok-Some-Run-clause-untouched
+returns-in-Ok-Some-Run-clause-untouched g c =
+    let is = c.in-Ok-Some-Run in
+    by_line (λ line. LeavesAlone line c.args.source.now c.answer_script.new.source c.args.sink.now c.answer_script.new.sink
+    c.args.store.now c.answer_script.new.store) is.field-0 (texts_of c.args.words.now) (Some (Run is.settings))
+    (is.field-0-is ∙ ap Some is.field-0-0-is) is.ensures tt

@@ -1,0 +1,220 @@
+-- Where no session is asked for, or the arguments couldn't be read, nothing is taken and the store stays as it is.
+use Rattle.std.proofs.Common.{◌≡◌, ◌⊎◌, inl, inr, ℕ, List, Option, None, Some, refl, ap, sym, subst, ◌∙◌, ⊎_elim}
+use Rattle.std.specs.Prelude.{IfSome, option_and_then}
+use Rattle.wu_outside.specs.Content.{Content}
+use Rattle.wu_outside.specs.Crash.{Moments}
+use Rattle.wu_outside.specs.declared.ranges.ReadRange.{ReadRange}
+use Rattle.wu_options.specs.CommandLines.{command_line_of}
+use Rattle.wu_options.specs.declared.command_lines.CommandLine.{CommandLine}
+use Rattle.wu_options.specs.declared.command_lines.CommandLine.TheVariants.{Run, Demo}
+use Rattle.wu_options.specs.declared.command_lines.Settings.{Settings}
+use Rattle.wu_query.specs.States.{State}
+use Rattle.wu_engine.specs.Opening.{IsSpentAt}
+use Rattle.wumpus_run.specs.declared.statuses.Status.{Status}
+use Rattle.wumpus_run.specs.declared.statuses.Status.TheVariants.{Done, Usage, ReadFault, WriteFault, NoMemory, InputTooLong, StoreFault}
+use Rattle.wumpus_run.specs.declared.statuses.Status.TheVariants.{Damaged, Spent}
+use Rattle.wumpus_run.specs.Crashes.{Survives}
+use Rattle.wumpus_run.specs.Demo.{IsShown}
+use Rattle.wumpus_run.specs.Ended.{IsSession, KeepsBlobs, OpensOnly}
+use Rattle.wumpus_run.specs.Session.{AnswersPrefix, HoldsNothingBack, IsCounted, IsSpent, Moment, PutsOnlyDrawn, StaysWithin}
+use Rattle.wumpus_run.specs.Permitted.{AnswersInTurn, ReadsPermitted}
+use Rattle.wumpus_run.specs.Session.{LeavesAlone, StaysShut, session_settings, settings_of}
+use Rattle.wumpus_run.proofs.CrashesAtEnd.{LeavesAcknowledged-untouched, LeavesSaves-untouched}
+use Rattle.wumpus_run.proofs.EarlierLemmas.{left_alone}
+use Rattle.wumpus_run.proofs.NamedCheckpoints.{checkpoint_same}
+use Rattle.wumpus_run.proofs.PromptAtEnd.{AnswersAllButOneRead-untouched}
+use Rattle.wumpus_run.proofs.ShutStores.{shut-unread}
+use Rattle.wumpus_run.proofs.StrayBlobs.{strays_alone}
+use Rattle.wumpus_run.proofs.TakenAtEnd.{IsTooLong-none, StaysWithin-short, TakesAtMost-none}
+use Rattle.wumpus_run.proofs.TakenReplies.{AnswersTaken-untouched}
+use Rattle.wumpus_run.proofs.UntakenBytes.{untaken_so}
+use Rattle.wumpus_run.proofs.WrittenAtEnd.{AnswersPrefix-none}
+
+-- ---- the store stays as it is
+
+pub blobs_alone : (settings : Option Settings) (before now : Moment) → now.holds ≡ before.holds
+    → ((s : State) → PutsOnlyDrawn s settings before now) → KeepsBlobs settings before now
+blobs_alone settings before now same puts = record {
+  earlier = λ content told root has. left_alone before.holds now.holds same content told root has;
+  checkpoint = checkpoint_same 0 before.holds now.holds same;
+  strays = λ s image. strays_alone s.layout before.holds now.holds same;
+  puts = λ s image. puts s;
+}
+
+-- ---- no session is asked for
+
+no_prompt : (start : State) (status : Status) (before now : Moment) → ((blob : ℕ) → status ≡ Damaged blob → ⊥)
+    → ((next : ℕ) → status ≡ Spent next → ⊥) → HoldsNothingBack start status None before now
+no_prompt start Done before now d s = tt
+no_prompt start Usage before now d s = tt
+no_prompt start ReadFault before now d s = tt
+no_prompt start InputTooLong before now d s = tt
+no_prompt start WriteFault before now d s = tt
+no_prompt start NoMemory before now d s = tt
+no_prompt start StoreFault before now d s = (tt, tt)
+no_prompt start (Damaged blob) before now d s = absurd (d blob refl)
+no_prompt start (Spent next) before now d s = absurd (s next refl)
+
+-- which statuses come then, and with which counts of faults
+pub record IsUnasked (status : Status) (before now : Moment) : Type 0 where
+  pub read_fault : IsCounted ReadFault status before.read_faults now.read_faults
+  pub write_fault : IsCounted WriteFault status before.write_faults now.write_faults
+  pub store_fault : IsCounted StoreFault status before.store_faults now.store_faults
+  pub damaged : (blob : ℕ) → status ≡ Damaged blob → ⊥
+  pub spent : (next : ℕ) → status ≡ Spent next → ⊥
+
+pub unasked_session : (status : Status) (before now : Moment) → IsUnasked status before now → IsSession status None before now
+unasked_session status before now is = record {
+  usage = λ e. refl;
+  all_taken = λ e. tt;
+  done = λ e s image. tt;
+  saved = λ e s image. tt;
+  named = λ e s image. tt;
+  read_fault = is.read_fault;
+  write_fault = is.write_fault;
+  store_fault = is.store_fault;
+  too_long = tt;
+  damaged = λ s image. is.damaged;
+  spent = record { only = λ next e. absurd (is.spent next e); comes = tt };
+  taken = tt;
+  ends = λ s image. record { prefix = tt; only_taken = tt; prompt = no_prompt s status before now is.damaged is.spent };
+}
+
+same_count : (fault status : Status) (count : ℕ) → (status ≡ fault → ⊥) → IsCounted fault status count count
+same_count fault status count other = record { rose = λ e. absurd (other e); calm = λ e. refl }
+
+pub usage_only : (before : Moment) → IsUnasked Usage before before
+usage_only before = record {
+  read_fault = same_count ReadFault Usage before.read_faults (λ e. (cc));
+  write_fault = same_count WriteFault Usage before.write_faults (λ e. (cc));
+  store_fault = same_count StoreFault Usage before.store_faults (λ e. (cc));
+  damaged = λ blob e. (cc);
+  spent = λ next e. (cc);
+}
+
+-- a demonstration ends in one of three ways
+pub demo_only : (number : ℕ) (status : Status) (before now : Moment) → now.read_faults ≡ before.read_faults
+    → now.store_faults ≡ before.store_faults → IsShown number status before.gained now.gained
+    → IsCounted WriteFault status before.write_faults now.write_faults → IsUnasked status before now
+demo_only number status before now read store shown write =
+    let other = λ (fault : Status) (d : fault ≡ Done → ⊥) (w : fault ≡ WriteFault → ⊥) (m : fault ≡ NoMemory → ⊥) (e : status ≡ fault).
+    ⊎_elim (λ is. d (sym e ∙ is)) (λ rest. ⊎_elim (λ is. w (sym e ∙ is)) (λ is. m (sym e ∙ is)) rest) shown.ends in
+    record {
+      read_fault = record { rose = λ e. absurd (other ReadFault (λ f. (cc)) (λ f. (cc)) (λ f. (cc)) e); calm = λ e. read };
+      write_fault = write;
+      store_fault = record { rose = λ e. absurd (other StoreFault (λ f. (cc)) (λ f. (cc)) (λ f. (cc)) e); calm = λ e. store };
+      damaged = λ blob e. other (Damaged blob) (λ f. (cc)) (λ f. (cc)) (λ f. (cc)) e;
+      spent = λ next e. other (Spent next) (λ f. (cc)) (λ f. (cc)) (λ f. (cc)) e;
+    }
+
+-- what else is said of a session that isn't asked for, over a store that is as it was and a source of which nothing was taken
+module _ (status : Status) (settings : Option Settings) (none : settings ≡ None) (before now : Moment) where
+  pub session_unasked : IsUnasked status before now → IsSession status settings before now
+  session_unasked is = subst (λ (told : Option Settings). IsSession status told before now) (sym none) (unasked_session status before now is)
+
+  pub turns_unasked : (start : State) → AnswersInTurn start status settings before now
+  turns_unasked start = subst (λ (told : Option Settings). AnswersInTurn start status told before now) (sym none) tt
+
+  pub permitted_unasked : (start : State) (old new : Option (List ReadRange)) → ReadsPermitted start status settings before now old new
+  permitted_unasked start old new = subst (λ (told : Option Settings). ReadsPermitted start status told before now old new) (sym none) tt
+
+  pub survives_unasked : (start : State) (old new : Option Moments) → Survives start status settings before now old new
+  survives_unasked start old new =
+      subst (λ (told : Option Settings). Survives start status told before now old new) (sym none)
+      (record { crash = tt; durable = λ e. tt; acknowledged = tt })
+
+  pub blobs_unasked : now.holds ≡ before.holds → KeepsBlobs settings before now
+  blobs_unasked same =
+      blobs_alone settings before now same
+      (λ s. subst (λ (told : Option Settings). PutsOnlyDrawn s told before now) (sym none) tt)
+
+  pub alone_unasked : now.left ≡ before.left → now.holds ≡ before.holds → (old new : Option Moments) → new ≡ old
+      → OpensOnly status settings before now old new
+  alone_unasked left same old new as_before = record {
+    opens = untaken_so _ before.left now.left (same, inl as_before);
+    unopened = λ next e. same;
+    shut = subst (λ (told : Option Settings). StaysShut told before now) (sym none) tt;
+  }
+
+-- the arguments ask for nothing, or for a demonstration
+pub nothing_asked : (line : Option CommandLine) (arguments : List (List ℕ)) → line ≡ None → line ≡ command_line_of arguments
+    → settings_of arguments ≡ None
+nothing_asked line arguments is said = ap (option_and_then session_settings) (sym said ∙ is)
+
+pub demo_asked : (line : Option CommandLine) (arguments : List (List ℕ)) (number : ℕ) → line ≡ Some (Demo number)
+    → line ≡ command_line_of arguments → settings_of arguments ≡ None
+demo_asked line arguments number is said = ap (option_and_then session_settings) (sym said ∙ is)
+
+-- ---- what is said by the command line
+
+pub by_line : (P : Option CommandLine → Type 0) (line : Option CommandLine) (arguments : List (List ℕ)) (asked : Option CommandLine)
+    → line ≡ asked → line ≡ command_line_of arguments → P asked → P (command_line_of arguments)
+by_line P line arguments asked is said so = subst P (sym is ∙ said) so
+
+-- source, sink and store are as they were
+pub all_alone : {I O D : Type 0} (line : Option CommandLine) (source : I) (sink : O) (store : D)
+    → LeavesAlone line source source sink sink store store
+all_alone None source sink store = (refl, refl, refl)
+all_alone (Some (Run settings)) source sink store = tt
+all_alone (Some (Demo number)) source sink store = (refl, refl)
+
+-- where something is asked for, nothing isn't
+pub none_told : {X : Type 0} (x : X) → Some x ≡ None → ⊥
+none_told x e = absurd (cc)
+
+-- ---- the arguments couldn't be read
+
+spent_unread : (settings : Option Settings) (holds : Option Content) → IsSpent NoMemory settings holds
+spent_unread settings holds = record { only = λ next e. absurd (cc); comes = comes settings holds }
+  where
+    comes : (settings : Option Settings) (holds : Option Content) → IfSome settings (λ told. IfSome holds (λ content. (next : ℕ)
+        → IsSpentAt content next → (NoMemory ≡ Spent next) ⊎ ((NoMemory ≡ StoreFault) ⊎ (NoMemory ≡ NoMemory))))
+    comes None holds = tt
+    comes (Some told) None = tt
+    comes (Some told) (Some content) = λ next is. inr (inr refl)
+
+within_unread : (settings : Option Settings) (before : Moment) → StaysWithin settings before before
+within_unread None before = tt
+within_unread (Some told) before = StaysWithin-short told before before (TakesAtMost-none before.left told.max_input)
+
+prefix_unread : (start : State) (settings : Option Settings) (before : Moment) → AnswersPrefix start settings before before
+prefix_unread start None before = tt
+prefix_unread start (Some told) before = AnswersPrefix-none told start before
+
+pub unread_session : (settings : Option Settings) (before : Moment) → IsSession NoMemory settings before before
+unread_session settings before = record {
+  usage = λ e. absurd (cc);
+  all_taken = λ e. absurd (cc);
+  done = λ e. absurd (cc);
+  saved = λ e. absurd (cc);
+  named = λ e. absurd (cc);
+  read_fault = same_count ReadFault NoMemory before.read_faults (λ e. (cc));
+  write_fault = same_count WriteFault NoMemory before.write_faults (λ e. (cc));
+  store_fault = same_count StoreFault NoMemory before.store_faults (λ e. (cc));
+  too_long = IsTooLong-none NoMemory settings before (λ e. (cc));
+  damaged = λ s image blob e. (cc);
+  spent = spent_unread settings before.holds;
+  taken = within_unread settings before;
+  ends = λ s image. record {
+    prefix = prefix_unread s settings before;
+    only_taken = AnswersTaken-untouched s settings before;
+    prompt = AnswersAllButOneRead-untouched s settings before;
+  };
+}
+
+pub unread_survives : (start : State) (settings : Option Settings) (before : Moment) (moments : Option Moments)
+    → Survives start NoMemory settings before before moments moments
+unread_survives start settings before moments = record {
+  crash = LeavesSaves-untouched start settings before.holds before.left moments;
+  durable = λ e. absurd (cc);
+  acknowledged = LeavesAcknowledged-untouched start settings before moments;
+}
+
+-- source and store are as they were
+pub alone_unread : (status : Status) (settings : Option Settings) (before : Moment) (moments : Option Moments)
+    → OpensOnly status settings before before moments moments
+alone_unread status settings before moments = record {
+  opens = untaken_so _ before.left before.left (refl, inl refl);
+  unopened = λ next e. refl;
+  shut = shut-unread _ settings before.holds (refl, refl, refl);
+}
