@@ -3,14 +3,15 @@ ghost use Rattle.std.specs.Prelude.{◌≡◌, [], ◌∷◌, ◌++◌, ◌≤�
 ghost use Rattle.std.specs.List.{flat_map, range_with_len};
 ghost use Rattle.std.specs.List.Sorted.{IsStrictlySortedBy};
 ghost use Rattle.wu_view.specs.Views.{path_cmp};
-ghost use Rattle.wu_export.specs.Exports.{before_slashes, comes_before, directories_of, directories_on, first_file, number_of, paths_in};
+ghost use Rattle.wu_export.specs.Exports.{before_slashes, comes_before, directories_on, first_file};
+ghost use Rattle.wu_export.specs.Exports.{number_of};
+ghost use Rattle.wu_export.specs.Exporting.{directories_through};
 ghost use Rattle.wu_export.specs.Finding.{HaveTheSame};
 
-use crate::Shown;
 use crate::paths::{Path, shared_length};
 use std::alloc::Global;
 use std::marker::Model;
-use wu_base::{Bytes, NoMemory, sorted_once};
+use wu_base::{NoMemory, sorted_once};
 
 /// The directories on the paths of a view, the root first. Contracts see the list of their paths, which
 /// ascends without repeats.
@@ -32,11 +33,10 @@ impl<'a> Model for Directories<'a> {
 }
 
 impl<'a> Directories<'a> {
-    /// The directories on the paths of these files.
-    pub(crate) fn of_view(alloc: Global, view: &'a [Shown]) -> Result<Directories<'a>, NoMemory>
-        ensures { IfOk result (λ directories. directories ≡ directories_of view.now) }
+    /// The directories on these paths of files.
+    pub(crate) fn on(alloc: Global, all: Vec<Path<'a>>) -> Result<Directories<'a>, NoMemory>
+        ensures { IfOk result (λ directories. directories ≡ directories_through all.entry.items) }
     {
-        let all = paths_of(alloc, view)?;
         let files = sorted_once(all);
         let found = directories_on(alloc, &files)?;
         let paths = sorted_once(found);
@@ -78,27 +78,6 @@ fn count_before(paths: &[Path], path: &[u8]) -> usize
     ensures within { result ≤ length paths.now }
 {
     paths.partition_point(|directory| directory.comes_before(path))
-}
-
-/// All paths of these files.
-fn paths_of<'a>(alloc: Global, view: &'a [Shown]) -> Result<Vec<Path<'a>>, NoMemory>
-    ensures { IfOk result (λ paths. paths.items ≡ paths_in view.now) }
-{
-    let mut paths = Vec::new(alloc);
-    for shown in view {
-        add_paths(&mut paths, shown.paths.as_slice())?;
-    }
-    Ok(paths)
-}
-
-/// Appends the paths of a file.
-fn add_paths<'a>(found: &mut Vec<Path<'a>>, paths: &'a [Bytes]) -> Result<(), NoMemory>
-    ensures { OnOk result (found.new.items ≡ found.old.items ++ paths.now) }
-{
-    for path in paths {
-        found.push(Path::new(path.as_slice()))?;
-    }
-    Ok(())
 }
 
 /// The directories on these paths, each once where the paths ascend: those that go through a directory

@@ -6,11 +6,11 @@ ghost use Rattle.wu_export.specs.Exports.{export_of};
 ghost use Rattle.wu_export.specs.Rebuilding.{IsExportable, IsRebuilt};
 
 mod directories;
+mod exporting;
 mod paths;
 mod writing;
 
-use crate::directories::Directories;
-use crate::writing::{put_directories, put_files, room_for};
+pub use exporting::Exporter;
 use std::alloc::Global;
 use wu_base::{Bytes, NoMemory, Sequence};
 
@@ -36,11 +36,11 @@ pub struct Shown {
 pub fn export(alloc: Global, view: &[Shown]) -> Result<Bytes, NoMemory>
     ensures { IfOk result (λ script. script ≡ export_of view.now) }
 {
-    let directories = Directories::of_view(alloc, view)?;
-    let mut script = Vec::with_capacity(alloc, room_for(&directories, view))?;
-    put_directories(&mut script, &directories)?;
-    put_files(&mut script, &directories, view)?;
-    Ok(Bytes::from(script))
+    let mut exporter = Exporter::of_shown(alloc, view)?;
+    for (place, shown) in view.iter().enumerate() {
+        exporter = exporter.with_file(place, shown.paths.as_slice(), shown.text.as_slice())?;
+    }
+    Ok(exporter.finish())
 }
 
 /// A law: from the root alone on, each entry of the export of a view is accepted as an event, in its turn;

@@ -1,12 +1,11 @@
 //! The commands of the script.
 ghost use Rattle.std.specs.Prelude.{◌≡◌, ◌++◌, ◌∷◌, [], ◌<◌, ◌^◌, ◌+◌, length, drop, map, decimal, OnOk};
-ghost use Rattle.wu_export.specs.Exports.{commands_of, directory_entry, file_entries, file_entry, files_from, first_file, last_name, link_entry, number_of, parent_path, path_entries, text_entries, text_line};
+ghost use Rattle.wu_export.specs.Exports.{commands_of, directory_entry, file_entries, file_entry, last_name, link_entry, number_of, parent_path, path_entries, text_entries, text_line};
 ghost use Rattle.wu_export.specs.Exports.{command_of};
 ghost use Rattle.wu_export.specs.Finding.{placed};
 
-use crate::Shown;
 use crate::directories::Directories;
-use crate::paths::cut;
+use crate::paths::{Path, cut};
 use wu_base::{Bytes, NoMemory};
 use wu_fields::{put_decimal, put_field};
 
@@ -35,32 +34,19 @@ fn put_directory(out: &mut Vec<u8>, directories: &Directories, path: &[u8]) -> R
     Ok(())
 }
 
-/// Appends the commands that make the files.
-pub(crate) fn put_files(
-    out: &mut Vec<u8>,
-    directories: &Directories,
-    view: &[Shown],
-) -> Result<(), NoMemory>
-    ensures { OnOk result (out.new.items ≡ out.old.items ++ commands_of (files_from directories.now (first_file directories.now) view.now)) }
-{
-    let first = directories.first_file();
-    for (place, shown) in view.iter().enumerate() {
-        put_shown(out, directories, first + place as u64, shown)?;
-    }
-    Ok(())
-}
-
-/// Appends the commands that make a file.
-fn put_shown(
+/// Appends the commands that make the file of that number, which has these paths and that text.
+pub(crate) fn put_shown(
     out: &mut Vec<u8>,
     directories: &Directories,
     number: u64,
-    shown: &Shown,
+    paths: &[Bytes],
+    text: &[u8],
 ) -> Result<(), NoMemory>
-    ensures { OnOk result (out.new.items ≡ out.old.items ++ commands_of (file_entries directories.now number shown.now)) }
+    ensures { OnOk result (out.new.items ≡ out.old.items ++ commands_of (file_entries directories.now number
+        (record { paths = paths.now; text = text.now }))) }
 {
-    put_paths(out, directories, number, shown.paths.as_slice())?;
-    put_text(out, number, shown.text.as_slice())
+    put_paths(out, directories, number, paths)?;
+    put_text(out, number, text)
 }
 
 /// Appends the commands that make a file at its least path, and link it at the others.
@@ -193,31 +179,17 @@ fn put_number(out: &mut Vec<u8>, number: u64) -> Result<(), NoMemory>
 }
 
 /// The most bytes of a command beside a name or a text.
-const COMMAND_MAX: usize = 48;
+pub(crate) const COMMAND_MAX: usize = 48;
 
-/// How many bytes the script has at most. It is a wish for memory alone, and no promise.
-pub(crate) fn room_for(directories: &Directories, view: &[Shown]) -> usize {
+/// How many bytes the commands of these paths have at most, where each byte of a name may be escaped. It is a
+/// wish for memory alone, and no promise.
+pub(crate) fn room_for(paths: &[Path]) -> usize {
     let mut room = 0usize;
-    for path in directories.below_root() {
-        room = room.saturating_add(room_at(path.bytes()));
-    }
-    for shown in view {
-        room = room.saturating_add(room_of(shown));
-    }
-    room
-}
-
-/// The same of the commands of one file.
-fn room_of(shown: &Shown) -> usize {
-    let mut room = shown.text.as_slice().len().saturating_add(COMMAND_MAX);
-    for path in shown.paths.as_slice() {
-        room = room.saturating_add(room_at(path.as_slice()));
+    for path in paths {
+        let (_, name) = cut(path.bytes());
+        room = room
+            .saturating_add(name.len().saturating_mul(2))
+            .saturating_add(COMMAND_MAX);
     }
     room
-}
-
-/// The same of a command with the last name of the path, each byte of which may be escaped.
-fn room_at(path: &[u8]) -> usize {
-    let (_, name) = cut(path);
-    name.len().saturating_mul(2).saturating_add(COMMAND_MAX)
 }

@@ -12,7 +12,6 @@ use Rattle.wu_outside.specs.Content.{Content}
 use Rattle.wu_outside.specs.declared.ranges.ReadRange.{ReadRange}
 use Rattle.wu_layout.specs.Invariants.{IsIndexed}
 use Rattle.wu_layout.specs.Layouts.{FileEntry, entry_of, homes_of, postings_of}
-use Rattle.wu_layout.proofs.EntryLemmas.{IfSome-map2}
 use Rattle.wu_layout.proofs.KeptLemmas.{SomeOf-left, SomeOf-right}
 use Rattle.wu_lists.proofs.Asking.{asks-none, ranges-none}
 use Rattle.wu_space.specs.Addresses.{Ranges, range_of}
@@ -22,6 +21,7 @@ use Rattle.wu_view.specs.Views.{view_of as files_of}
 use Rattle.wu_frames.specs.declared.Frames.{Frames}
 use Rattle.wu_parts.specs.Contents.{Contents}
 use Rattle.wu_export.specs.Exports.{export_of}
+use Rattle.wu_export.specs.Exporting.{Begun, begun, with_files}
 use Rattle.wu_ask.specs.Questions.{Exporting}
 use Rattle.wu_ask.specs.declared.Answered.TheVariants.{Export}
 use Rattle.wu_query.specs.Answer.{answer}
@@ -34,13 +34,13 @@ use Rattle.wu_query.specs.Records.{Records, record_at, record_of, records_of}
 use Rattle.wu_query.specs.Searched.{HoldsTexts, Indexes}
 use Rattle.wu_query.specs.States.{State, indexed, text_in}
 use Rattle.wu_query.specs.View.{Shown, shown_of, view_of}
-use Rattle.wu_query.proofs.AnswerLemmas.{mapped_more}
 use Rattle.wu_query.proofs.DamagedTexts.{not_zero, some_behind}
 use Rattle.wu_query.proofs.FirstLines.{at_place}
 use Rattle.wu_query.proofs.FoundLines.{record_found, text_of_entry}
 use Rattle.wu_query.proofs.FramesOfView.{range_in, view_has_ranges}
 use Rattle.wu_query.proofs.PermittedBlocks.{reads_joined}
 use Rattle.wu_query.proofs.ReadCauses.{cause_after}
+use Rattle.wu_query.proofs.WrittenFiles.{is_export}
 
 -- ---- file by file
 
@@ -63,15 +63,6 @@ first_read text view n first is_read = (
 
 -- with the file at a place
 module _ (view : List Seen) (i : ℕ) (seen : Seen) (within : i < length view) (is : seen ≡ get_or view i seen) where
-  -- one more file has its text
-  pub files_more : (file : Content → Seen → Shown) (before : List Shown) {holds here : Option Content} (one : Shown) {now : List Shown}
-      → here ≡ holds → IfSome holds (λ content. before ≡ map (file content) (take i view))
-      → IfSome here (λ content. one ≡ file content seen) → now ≡ before ++ one ∷ []
-      → IfSome holds (λ content. now ≡ map (file content) (take (i + 1) view))
-  files_more file before {holds} one {now} same kept put pushed =
-      IfSome-map2 _ _ _ holds (λ content p q. mapped_more (file content) view before now i seen one within is p pushed q) kept
-      (rw same at put)
-
   -- it is damaged
   pub damaged_at : (files : Records) (holds : Option Content) (blob : ℕ)
       → IsSomeAnd (record_at files seen.ino) (λ file. IsBrokenIn holds file blob) → IsDamagedOf view files holds blob
@@ -180,17 +171,21 @@ module _ (frames : Frames) (live : Ranges) (s : State) (uid : ℕ) (is : Indexes
 -- ---- the export
 
 module _ (frames : Frames) (live : Ranges) (s : State) (uid : ℕ) (is : Indexes frames live s uid) (files : Records) where
-  -- the script of the files that were read is that of her view
-  pub script_exported : (holds : Option Content) (view : List Seen) (shown : List Shown) (script : List ℕ) → KeepsTexts files holds s
-      → view ≡ frames.seen → IfSome holds (λ content. shown ≡ map (shown_at content files) view) → script ≡ export_of shown
+  -- the script with the files that were read is that of her view
+  pub script_exported : (holds : Option Content) (view : List Seen) (first written : Begun) (script : List ℕ) → KeepsTexts files holds s
+      → view ≡ frames.seen → first ≡ begun (flat_map (λ (seen : Seen). seen.paths) view)
+      → IfSome holds (λ content. written ≡ with_files first (map (shown_at content files) view)) → script ≡ written.script
       → Export script ≡ answer (view_of s uid) Exporting
   unfolding answer
-  script_exported None view shown script keeps same are is_script = absurd keeps.texts
-  script_exported (Some content) view shown script keeps same are is_script =
+  script_exported None view first written script keeps same start are is_script = absurd keeps.texts
+  script_exported (Some content) view first written script keeps same start are is_script =
+      let shown : List Shown = map (shown_at content files) view in
       ap (λ (bytes : List ℕ). Export bytes)
       (is_script
-      ∙ ap export_of
-      (are ∙ ap (map (shown_at content files)) same ∙ view_shown frames live s uid is files keeps.records content keeps.texts))
+      ∙ ap (λ (e : Begun). e.script) are
+      ∙ ap (λ (e : Begun). (with_files e shown).script) start
+      ∙ is_export (shown_at content files) view (λ seen. refl)
+      ∙ ap export_of (ap (map (shown_at content files)) same ∙ view_shown frames live s uid is files keeps.records content keeps.texts))
 
   -- where the first ones of the texts were read, her export may have read them
   pub export_permitted : (holds : Option Content) (view : List Seen) (before : Option (List ReadRange)) {after : Option (List ReadRange)}

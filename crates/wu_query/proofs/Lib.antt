@@ -28,6 +28,7 @@ pub mod QueryReads
 pub mod HeldTerms
 pub mod FoundWords
 pub mod WordsInFrames
+pub mod WrittenFiles
 pub mod UserTerms
 pub mod PermittedBlocks
 pub mod PermittedTexts

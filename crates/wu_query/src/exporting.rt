@@ -4,6 +4,7 @@ ghost use Rattle.std.specs.List.{AllByRecursion, flat_map};
 ghost use Rattle.std.specs.Option.{IsSomeAnd};
 ghost use Rattle.wu_ask.specs.Questions.{Exporting as AskedExporting};
 ghost use Rattle.wu_space.specs.Addresses.{Ranges};
+ghost use Rattle.wu_export.specs.Exporting.{with_files};
 ghost use Rattle.wu_query.specs.Answer.{answer};
 ghost use Rattle.wu_query.specs.Causes.{IsBrokenIn, IsDamagedOf};
 ghost use Rattle.wu_query.specs.Exporting.{held_of, shown_at};
@@ -20,8 +21,8 @@ use crate::reading::read_text;
 use std::alloc::Global;
 use std::collections::BTreeMap;
 use wu_ask::Answered;
-use wu_base::{Bytes, Ino, Trouble};
-use wu_export::Shown;
+use wu_base::{Ino, Trouble};
+use wu_export::Exporter;
 use wu_frames::Frames;
 use wu_image::FileRec;
 use wu_outside::Store;
@@ -30,7 +31,7 @@ use wu_view::Seen;
 /// The script that makes the user's files from nothing. Of the store only their texts are read,
 /// each once and whole, in the order of her view.
 ///
-/// Beside the script, which is built in one piece, the memory holds each text and each path once.
+/// Beside the script, which is built in one piece, the memory holds one text at a time.
 pub fn export<D: Store>(
     alloc: Global,
     store: &mut D,
@@ -55,21 +56,38 @@ pub fn export<D: Store>(
         (IsDamagedOf frames.now.seen files.now.entries (D.holds store.old))
         (D.faults store.old) (D.faults store.new) (D.reads store.old) (D.reads store.new)) }
 {
-    let shown = shown_files(alloc, store, frames.seen.as_slice(), files)?;
-    let script = wu_export::export(alloc, &shown)?;
-    Ok(Answered::Export { script })
+    let view = frames.seen.as_slice();
+    let begun = Exporter::new(alloc, view, size_of_texts(view, files))?;
+    let written = with_texts(alloc, store, view, files, begun)?;
+    Ok(Answered::Export {
+        script: written.finish(),
+    })
 }
 
-/// The files of the view with their texts.
-fn shown_files<D: Store>(
+/// How many bytes the texts of the view have, as recorded. It is a wish for memory alone, and no promise.
+fn size_of_texts(view: &[Seen], files: &BTreeMap<Ino, FileRec>) -> usize {
+    let mut size = 0usize;
+    for seen in view {
+        let len = match files.get(&seen.ino) {
+            Some(file) => file.len as usize,
+            None => 0,
+        };
+        size = size.saturating_add(len);
+    }
+    size
+}
+
+/// The script with the files of the view, each of whose texts is read, written and let go.
+fn with_texts<'a, D: Store>(
     alloc: Global,
     store: &mut D,
     view: &[Seen],
     files: &BTreeMap<Ino, FileRec>,
-) -> Result<Vec<Shown>, Trouble>
+    exporter: Exporter<'a>,
+) -> Result<Exporter<'a>, Trouble>
     requires { AllByRecursion CanBeRead files.now.entries }
-    ensures files { IfOk result (λ shown. IfSome (D.holds store.old) (λ content.
-        shown.items ≡ map (shown_at content files.now.entries) view.now)) }
+    ensures script { IfOk result (λ exporter_with. IfSome (D.holds store.old) (λ content.
+        exporter_with ≡ with_files exporter.entry (map (shown_at content files.now.entries) view.now))) }
     ensures sound { OnOk result (AllByRecursion (IsTextOf (D.holds store.old) files.now.entries)
         (flat_map (text_at files.now.entries) view.now)) }
     ensures holds { D.holds store.new ≡ D.holds store.old }
@@ -84,42 +102,12 @@ fn shown_files<D: Store>(
         (D.faults store.old) (D.faults store.new) (D.reads store.old) (D.reads store.new)) }
 {
     let _untouched = &*store;
-    let mut shown = Vec::with_capacity(alloc, view.len())?;
-    for seen in view {
-        shown.push(shown_file(alloc, store, seen, files)?)?;
+    let mut written = exporter;
+    for (place, seen) in view.iter().enumerate() {
+        let text = text_of(alloc, store, seen.ino, files)?;
+        written = written.with_file(place, seen.paths.as_slice(), &text)?;
     }
-    Ok(shown)
-}
-
-/// A file with its text.
-fn shown_file<D: Store>(
-    alloc: Global,
-    store: &mut D,
-    seen: &Seen,
-    files: &BTreeMap<Ino, FileRec>,
-) -> Result<Shown, Trouble>
-    requires { AllByRecursion CanBeRead files.now.entries }
-    ensures file { IfOk result (λ shown. IfSome (D.holds store.old) (λ content.
-        shown ≡ shown_at content files.now.entries seen.now)) }
-    ensures sound { OnOk result (AllByRecursion (IsTextOf (D.holds store.old) files.now.entries)
-        (text_at files.now.entries seen.now)) }
-    ensures holds { D.holds store.new ≡ D.holds store.old }
-    ensures moments { D.moments store.new ≡ D.moments store.old }
-    ensures reads { OnOk result (D.reads store.new
-        ≡ option_map (λ ranges. ranges ++ text_at files.now.entries seen.now) (D.reads store.old)) }
-    ensures only { ReadsSuch (AreFirstOf (text_at files.now.entries seen.now))
-        (D.reads store.old) (D.reads store.new) }
-    ensures calm { OnOk result (D.faults store.new ≡ D.faults store.old) }
-    ensures cause { IfErr result (IsCause (λ blob.
-        IsSomeAnd (record_at files.now.entries seen.now.ino)
-        (λ file. IsBrokenIn (D.holds store.old) file blob))
-        (D.faults store.old) (D.faults store.new) (D.reads store.old) (D.reads store.new)) }
-{
-    let text = text_of(alloc, store, seen.ino, files)?;
-    Ok(Shown {
-        paths: seen.paths.clone()?,
-        text: Bytes::from(text),
-    })
+    Ok(written)
 }
 
 /// The text of the file of that number; a file without a record has the empty one.

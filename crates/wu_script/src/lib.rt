@@ -10,6 +10,7 @@ mod input;
 mod items;
 mod laws;
 mod lines;
+mod moves;
 mod queries;
 mod reader;
 mod replies;
@@ -23,6 +24,7 @@ pub use laws::{
     items_are_the_first_and_the_rest, whole_items_are_a_prefix,
     whole_items_are_the_first_and_the_rest,
 };
+pub use moves::move_reply;
 pub use reader::Reader;
 pub use replies::put_reply;
 pub use types::{Command, Item, Line, Reply, Why};

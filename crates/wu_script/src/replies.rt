@@ -287,10 +287,19 @@ fn append_export(out: &mut Vec<u8>, script: &[u8]) -> Result<(), NoMemory>
     ensures ok { OnOk result (out.new.items ≡ out.old.items ++ (codes "export\t" ++ decimal (length script.now) ++ 10 ∷ [] ++ script.now ++ 10 ∷ [])) }
     ensures err { OnErr result ((more : List ℕ) × (out.new.items ≡ out.old.items ++ more)) }
 {
-    out.extend_from_slice(b"export\t")?;
-    put_decimal(out, script.len() as u64)?;
-    out.push(b'\n')?;
+    append_export_line(out, script.len() as u64)?;
     out.extend_from_slice(script)?;
+    out.push(b'\n')?;
+    Ok(())
+}
+
+/// Appends the line before a script of so many bytes.
+pub(crate) fn append_export_line(out: &mut Vec<u8>, size: u64) -> Result<(), NoMemory>
+    ensures ok { OnOk result (out.new.items ≡ out.old.items ++ (codes "export\t" ++ decimal size ++ 10 ∷ [])) }
+    ensures err { OnErr result ((more : List ℕ) × (out.new.items ≡ out.old.items ++ more)) }
+{
+    out.extend_from_slice(b"export\t")?;
+    put_decimal(out, size)?;
     out.push(b'\n')?;
     Ok(())
 }
