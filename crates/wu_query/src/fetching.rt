@@ -4,6 +4,7 @@ ghost use Rattle.std.specs.Cmp.Lexicographic.{pointwise};
 ghost use Rattle.std.specs.List.{list_any};
 ghost use Rattle.std.specs.List.Sorted.{IsStrictlyIncreasing};
 ghost use Rattle.wu_lists.specs.Keeping.{Asks};
+ghost use Rattle.wu_outside.specs.Reading.{OnlyReads};
 ghost use Rattle.wu_query.specs.Asked.{blocks_for};
 ghost use Rattle.wu_query.specs.States.{State};
 ghost use Rattle.wu_query.specs.Searched.{TellsPostings};
@@ -32,9 +33,7 @@ pub fn lists_of<D: Store>(
     ensures blocks { OnOk result (Asks (blocks_for parts.old frames.now.ranges terms.now) (D.holds store.old)
         parts.old.kept parts.new.kept (D.reads store.old) (D.reads store.new)) }
     ensures others { parts.new ≡ record parts.old { kept = parts.new.kept } }
-    ensures holds { D.holds store.new ≡ D.holds store.old }
-    ensures moments { D.moments store.new ≡ D.moments store.old }
-    ensures calm { OnOk result (D.faults store.new ≡ D.faults store.old) }
+    ensures store { OnlyReads D.Store store.old store.new result }
     ensures cause { IfErr result (IsCauseFor parts.old frames.now.ranges terms.now (D.holds store.old)
         (D.faults store.old) (D.faults store.new) (D.reads store.old) (D.reads store.new)) }
 {
@@ -63,9 +62,7 @@ pub fn lists_of_words<D: Store>(
     ensures blocks { OnOk result (Asks (blocks_for parts.old frames.now.ranges terms.now) (D.holds store.old)
         parts.old.kept parts.new.kept (D.reads store.old) (D.reads store.new)) }
     ensures others { parts.new ≡ record parts.old { kept = parts.new.kept } }
-    ensures holds { D.holds store.new ≡ D.holds store.old }
-    ensures moments { D.moments store.new ≡ D.moments store.old }
-    ensures calm { OnOk result (D.faults store.new ≡ D.faults store.old) }
+    ensures store { OnlyReads D.Store store.old store.new result }
     ensures cause { IfErr result (IsCauseFor parts.old frames.now.ranges terms.now (D.holds store.old)
         (D.faults store.old) (D.faults store.new) (D.reads store.old) (D.reads store.new)) }
 {
@@ -94,9 +91,7 @@ fn put_list<D: Store>(
     ensures blocks { OnOk result (Asks (blocks_for parts.old frames.now.ranges (term.now ∷ [])) (D.holds store.old)
         parts.old.kept parts.new.kept (D.reads store.old) (D.reads store.new)) }
     ensures others { parts.new ≡ record parts.old { kept = parts.new.kept } }
-    ensures holds { D.holds store.new ≡ D.holds store.old }
-    ensures moments { D.moments store.new ≡ D.moments store.old }
-    ensures calm { OnOk result (D.faults store.new ≡ D.faults store.old) }
+    ensures store { OnlyReads D.Store store.old store.new result }
     ensures cause { IfErr result (IsCauseFor parts.old frames.now.ranges (term.now ∷ []) (D.holds store.old)
         (D.faults store.old) (D.faults store.new) (D.reads store.old) (D.reads store.new)) }
 {
@@ -129,9 +124,7 @@ fn list_of<D: Store>(
     ensures blocks { OnOk result (Asks (blocks_for parts.old frames.now.ranges (term.now ∷ [])) (D.holds store.old)
         parts.old.kept parts.new.kept (D.reads store.old) (D.reads store.new)) }
     ensures others { parts.new ≡ record parts.old { kept = parts.new.kept } }
-    ensures holds { D.holds store.new ≡ D.holds store.old }
-    ensures moments { D.moments store.new ≡ D.moments store.old }
-    ensures calm { OnOk result (D.faults store.new ≡ D.faults store.old) }
+    ensures store { OnlyReads D.Store store.old store.new result }
     ensures cause { IfErr result (IsCauseFor parts.old frames.now.ranges (term.now ∷ []) (D.holds store.old)
         (D.faults store.old) (D.faults store.new) (D.reads store.old) (D.reads store.new)) }
 {

@@ -8,6 +8,7 @@ ghost use Rattle.wu_base.specs.declared.limits.TheConstants.{RANK_WORDS_MAX};
 ghost use Rattle.wu_gcl.specs.Regions.{Region, WholeFile, region_of};
 ghost use Rattle.wu_gcl.specs.Terms.{AreTerms};
 ghost use Rattle.wu_lists.specs.Keeping.{Asks};
+ghost use Rattle.wu_outside.specs.Reading.{OnlyReads};
 ghost use Rattle.wu_rank.specs.Scores.{count_at, length_of, total_length};
 ghost use Rattle.wu_rank.specs.Order.{listed};
 ghost use Rattle.wu_rank.specs.Pruning.{reaching};
@@ -65,9 +66,7 @@ pub fn ranked<D: Store>(
         (blocks_for parts.old frames.now.ranges (with_words (named_in (region_of unit.now)) words.now)) (D.holds store.old)
         parts.old.kept parts.new.kept (D.reads store.old) (D.reads store.new)) }
     ensures others { parts.new ≡ record parts.old { kept = parts.new.kept } }
-    ensures holds { D.holds store.new ≡ D.holds store.old }
-    ensures moments { D.moments store.new ≡ D.moments store.old }
-    ensures calm { OnOk result (D.faults store.new ≡ D.faults store.old) }
+    ensures store { OnlyReads D.Store store.old store.new result }
     ensures cause { IfErr result (IsCauseFor parts.old frames.now.ranges (with_words (named_in (region_of unit.now)) words.now)
         (D.holds store.old) (D.faults store.old) (D.faults store.new) (D.reads store.old) (D.reads store.new)) }
 {
@@ -104,9 +103,7 @@ pub fn weighed<D: Store>(
         (blocks_for parts.old frames.now.ranges (with_words (named_in (region_of unit.now)) words.now)) (D.holds store.old)
         parts.old.kept parts.new.kept (D.reads store.old) (D.reads store.new)) }
     ensures others { parts.new ≡ record parts.old { kept = parts.new.kept } }
-    ensures holds { D.holds store.new ≡ D.holds store.old }
-    ensures moments { D.moments store.new ≡ D.moments store.old }
-    ensures calm { OnOk result (D.faults store.new ≡ D.faults store.old) }
+    ensures store { OnlyReads D.Store store.old store.new result }
     ensures cause { IfErr result (IsCauseFor parts.old frames.now.ranges (with_words (named_in (region_of unit.now)) words.now)
         (D.holds store.old) (D.faults store.old) (D.faults store.new) (D.reads store.old) (D.reads store.new)) }
 {
@@ -142,9 +139,7 @@ fn answer_for<D: Store>(
         (blocks_for parts.old frames.now.ranges (with_words (named_in (region_of unit.now)) words.now)) (D.holds store.old)
         parts.old.kept parts.new.kept (D.reads store.old) (D.reads store.new)) }
     ensures others { parts.new ≡ record parts.old { kept = parts.new.kept } }
-    ensures holds { D.holds store.new ≡ D.holds store.old }
-    ensures moments { D.moments store.new ≡ D.moments store.old }
-    ensures calm { OnOk result (D.faults store.new ≡ D.faults store.old) }
+    ensures store { OnlyReads D.Store store.old store.new result }
     ensures cause { IfErr result (IsCauseFor parts.old frames.now.ranges (with_words (named_in (region_of unit.now)) words.now)
         (D.holds store.old) (D.faults store.old) (D.faults store.new) (D.reads store.old) (D.reads store.new)) }
 {

@@ -46,7 +46,7 @@ returns-in_err-lists-clause-cause g c =
 pub returns-in_err-counts-clause-cause : goal.returns-in_err-counts-clause-cause
 returns-in_err-counts-clause-cause g c =
     cause_at_last c.from_residual-in_err-counts.result c.args.parts.now c.args.frames.now.ranges (terms_of (region_of c.args.expr.now))
-    c.in_ok-lists.ensures.calm
+    c.in_ok-lists.ensures.store.calm
     (rw (c.deref.ensures.value ∙ terms_named (region_of c.args.expr.now) c.in_ok-terms.terms.items c.in_ok-terms.ensures)
     at c.in_ok-lists.ensures.blocks)
     c.from_residual-in_err-counts.ensures.1

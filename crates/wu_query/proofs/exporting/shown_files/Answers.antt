@@ -20,9 +20,9 @@ loop-seen-preserved g c =
     let shown = c.in_ok-shown_file.ensures in
     let within : i < length view = search rules in
     record {
-      holds = c.shown_file.ensures.holds ∙ told.holds;
-      moments = c.shown_file.ensures.moments ∙ told.moments;
-      calm = shown.calm ∙ told.calm;
+      holds = c.shown_file.ensures.store.holds ∙ told.holds;
+      moments = c.shown_file.ensures.store.moments ∙ told.moments;
+      calm = shown.store.calm ∙ told.calm;
       files = files_more view i seen within c.seen-item.is (λ content. shown_at content files) c.loop-seen.shown.items
           c.in_ok-shown_file.field-0 told.holds told.files shown.file c.in_ok-push.ensures.items;
       sound = each_more view i seen within c.seen-item.is (text_at files) (IsTextOf holds files) told.sound
@@ -60,7 +60,7 @@ returns-in_err-push-clause-only g c =
 
 pub returns-in_err-push-clause-cause : goal.returns-in_err-push-clause-cause
 returns-in_err-push-clause-cause g c =
-    cause_of_memory c.from_residual-in_err-push.result _ _ _ (c.in_ok-shown_file.ensures.calm ∙ c.loop-seen.invariant.calm)
+    cause_of_memory c.from_residual-in_err-push.result _ _ _ (c.in_ok-shown_file.ensures.store.calm ∙ c.loop-seen.invariant.calm)
     c.from_residual-in_err-push.ensures.1
 
 pub returns-in_err-shown-clause-only : goal.returns-in_err-shown-clause-only

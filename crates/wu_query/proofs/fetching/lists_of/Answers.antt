@@ -25,9 +25,9 @@ loop-term-preserved g c =
           c.in_ok-push.ensures.items c.in_ok-list_of.ensures.ascending;
       asked = asked_next terms i term within c.term-item.is parts ranges told.others told.holds told.asked c.in_ok-list_of.ensures.blocks;
       others = others_next parts c.loop-term.parts c.list_of.new.parts told.others c.list_of.ensures.others;
-      holds = c.list_of.ensures.holds ∙ told.holds;
-      moments = c.list_of.ensures.moments ∙ told.moments;
-      calm = c.in_ok-list_of.ensures.calm ∙ told.calm;
+      holds = c.list_of.ensures.store.holds ∙ told.holds;
+      moments = c.list_of.ensures.store.moments ∙ told.moments;
+      calm = c.in_ok-list_of.ensures.store.calm ∙ told.calm;
     }
 
 pub returns-in_err-lists-clause-cause : goal.returns-in_err-lists-clause-cause
@@ -50,6 +50,6 @@ returns-in_err-push-clause-cause g c =
     let within : i < length terms = search rules in
     let told = c.loop-term.invariant in
     fails_on_the_way c.from_residual-in_err-push.result terms (i + 1) c.args.parts.now ranges c.from_residual-in_err-push.ensures.1
-    (c.in_ok-list_of.ensures.calm ∙ told.calm)
+    (c.in_ok-list_of.ensures.store.calm ∙ told.calm)
     (asked_next terms i c.term-item.result within c.term-item.is c.args.parts.now ranges told.others told.holds told.asked
     c.in_ok-list_of.ensures.blocks)

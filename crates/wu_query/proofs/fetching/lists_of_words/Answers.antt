@@ -20,9 +20,9 @@ loop-term-preserved g c =
       ascending = c.in_ok-put_list.ensures.ascending told.ascending;
       asked = asked_next terms i term within c.term-item.is parts ranges told.others told.holds told.asked c.in_ok-put_list.ensures.blocks;
       others = others_next parts c.loop-term.parts c.put_list.new.parts told.others c.put_list.ensures.others;
-      holds = c.put_list.ensures.holds ∙ told.holds;
-      moments = c.put_list.ensures.moments ∙ told.moments;
-      calm = c.in_ok-put_list.ensures.calm ∙ told.calm;
+      holds = c.put_list.ensures.store.holds ∙ told.holds;
+      moments = c.put_list.ensures.store.moments ∙ told.moments;
+      calm = c.in_ok-put_list.ensures.store.calm ∙ told.calm;
     }
 
 pub returns-in_err-put_list-clause-cause : goal.returns-in_err-put_list-clause-cause

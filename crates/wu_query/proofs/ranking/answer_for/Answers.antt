@@ -56,7 +56,7 @@ returns-in_err-lists-in-File-clause-cause g c =
 pub returns-in_err-rank_file_lists-in-File-clause-cause : goal.returns-in_err-rank_file_lists-in-File-clause-cause
 returns-in_err-rank_file_lists-in-File-clause-cause g c =
     cause_at_last c.from_residual-in_err-rank_file_lists-in-File.result c.args.parts.now c.args.frames.now.ranges
-    (with_words (terms_of (region_of c.args.unit.now)) c.args.words.now) c.in_ok-lists-in-File.ensures.calm
+    (with_words (terms_of (region_of c.args.unit.now)) c.args.words.now) c.in_ok-lists-in-File.ensures.store.calm
     (rw (c.deref.ensures.value ∙ asked_is g (goal.at.returns-in_err-rank_file_lists-in-File-clause-cause g c).In_ok-asked)
     at c.in_ok-lists-in-File.ensures.blocks) c.from_residual-in_err-rank_file_lists-in-File.ensures.1
 
@@ -109,6 +109,6 @@ returns-in_err-lists-in_default-clause-cause g c =
 pub returns-in_err-rank_lists-in_default-clause-cause : goal.returns-in_err-rank_lists-in_default-clause-cause
 returns-in_err-rank_lists-in_default-clause-cause g c =
     cause_at_last c.from_residual-in_err-rank_lists-in_default.result c.args.parts.now c.args.frames.now.ranges
-    (with_words (terms_of (region_of c.args.unit.now)) c.args.words.now) c.in_ok-lists-in_default.ensures.calm
+    (with_words (terms_of (region_of c.args.unit.now)) c.args.words.now) c.in_ok-lists-in_default.ensures.store.calm
     (rw (c.deref-in_default.ensures.value ∙ asked_is g (goal.at.returns-in_err-rank_lists-in_default-clause-cause g c).In_ok-asked)
     at c.in_ok-lists-in_default.ensures.blocks) c.from_residual-in_err-rank_lists-in_default.ensures.1

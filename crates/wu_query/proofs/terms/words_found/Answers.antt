@@ -20,9 +20,9 @@ loop-word-preserved g c =
           (tells_then words i word within c.word-item.is parts ranges told.others told.holds told.asked s tells));
       asked = asked_next words i word within c.word-item.is parts ranges told.others told.holds told.asked c.in_ok-put_word.ensures.blocks;
       others = others_next parts c.loop-word.parts c.put_word.new.parts told.others c.put_word.ensures.others;
-      holds = c.put_word.ensures.holds ∙ told.holds;
-      moments = c.put_word.ensures.moments ∙ told.moments;
-      calm = c.in_ok-put_word.ensures.calm ∙ told.calm;
+      holds = c.put_word.ensures.store.holds ∙ told.holds;
+      moments = c.put_word.ensures.store.moments ∙ told.moments;
+      calm = c.in_ok-put_word.ensures.store.calm ∙ told.calm;
     }
 
 pub returns-in_err-put_word-clause-cause : goal.returns-in_err-put_word-clause-cause
