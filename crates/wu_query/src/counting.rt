@@ -89,7 +89,6 @@ fn count_lists<D: Store>(
     ensures cause { IfErr result (IsCauseFor parts.old frames.now.ranges (named_in (region_of expr.now)) (D.holds store.old)
         (D.faults store.old) (D.faults store.new) (D.reads store.old) (D.reads store.new)) }
 {
-    let _untouched = &*store;
     let terms = terms_of(alloc, expr)?;
     let lists = lists_of(alloc, store, &terms, frames, parts)?;
     let counts = count_apart(alloc, expr, frames.ranges.as_slice(), &lists)?;

@@ -37,7 +37,6 @@ pub fn lists_of<D: Store>(
     ensures cause { IfErr result (IsCauseFor parts.old frames.now.ranges terms.now (D.holds store.old)
         (D.faults store.old) (D.faults store.new) (D.reads store.old) (D.reads store.new)) }
 {
-    let _untouched = &*store;
     let mut lists = Vec::with_capacity(alloc, terms.len())?;
     for term in terms {
         lists.push(list_of(store, term, frames, parts)?)?;
@@ -66,7 +65,6 @@ pub fn lists_of_words<D: Store>(
     ensures cause { IfErr result (IsCauseFor parts.old frames.now.ranges terms.now (D.holds store.old)
         (D.faults store.old) (D.faults store.new) (D.reads store.old) (D.reads store.new)) }
 {
-    let _untouched = &*store;
     let mut lists = Vec::new(alloc);
     for term in terms {
         put_list(store, &mut lists, term, words, frames, parts)?;
@@ -95,7 +93,6 @@ fn put_list<D: Store>(
     ensures cause { IfErr result (IsCauseFor parts.old frames.now.ranges (term.now ∷ []) (D.holds store.old)
         (D.faults store.old) (D.faults store.new) (D.reads store.old) (D.reads store.new)) }
 {
-    let _untouched = &*store;
     if !is_among(words, term) {
         return Ok(parts.touch(store, term.as_slice(), frames.ranges.as_slice())?);
     }

@@ -66,7 +66,6 @@ pub fn find<D: Store>(
     ensures cause { IfErr result (IsCause (IsDamagedOver frames.now (AskedFinding k (region_of expr.now)) parts.old files.now.entries
         (D.holds store.old)) (D.faults store.old) (D.faults store.new) (D.reads store.old) (D.reads store.new)) }
 {
-    let _untouched = &*store;
     let terms = terms_of(alloc, expr)?;
     let lists = lists_of(alloc, store, &terms, frames, parts)?;
     let counts = count_apart(alloc, expr, frames.ranges.as_slice(), &lists)?;
@@ -119,7 +118,6 @@ fn lines_shown<D: Store>(
         k (looked_through few (region_of expr.now) lists.now frames.now))
         (D.faults store.old) (D.faults store.new) (D.reads store.old) (D.reads store.new)) }
 {
-    let _untouched = &*store;
     if !few {
         return first_lines(alloc, store, frames.seen.as_slice(), files, expr, lists, k);
     }

@@ -67,7 +67,6 @@ pub fn answered<D: Store>(
         parts.old files.now.entries (D.holds store.old))
         (D.faults store.old) (D.faults store.new) (D.reads store.old) (D.reads store.new)) }
 {
-    let _untouched = &*store;
     space.keeps_the_rules();
     kept.prepare(tree, space, query.uid)?;
     match kept.kept(query.uid) {
@@ -104,7 +103,6 @@ fn answer<D: Store>(
     ensures cause { IfErr result (IsCause (IsDamagedOver frames.now (question_of ask.now) parts.old files.now.entries (D.holds store.old))
         (D.faults store.old) (D.faults store.new) (D.reads store.old) (D.reads store.new)) }
 {
-    let _untouched = &*store;
     match ask {
         Ask::Count { expr } => count(alloc, store, frames, parts, expr),
         Ask::Find { k, expr } => find(alloc, store, frames, parts, files, *k, expr),

@@ -143,7 +143,6 @@ fn answer_for<D: Store>(
     ensures cause { IfErr result (IsCauseFor parts.old frames.now.ranges (with_words (named_in (region_of unit.now)) words.now)
         (D.holds store.old) (D.faults store.old) (D.faults store.new) (D.reads store.old) (D.reads store.new)) }
 {
-    let _untouched = &*store;
     let terms = terms_of(alloc, unit)?;
     let count = terms.len();
     let asked = with_words(terms, words)?;

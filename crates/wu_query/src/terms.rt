@@ -50,7 +50,6 @@ pub fn user_terms<D: Store>(
         (words_with prefix.now (terms_held parts.old)) (D.holds store.old)
         (D.faults store.old) (D.faults store.new) (D.reads store.old) (D.reads store.new)) }
 {
-    let _untouched = &*store;
     let words = parts.candidates(prefix)?;
     let found = words_found(alloc, store, &words, frames, parts)?;
     let listing = list_terms(found, k, top);
@@ -83,7 +82,6 @@ fn words_found<D: Store>(
         (D.holds store.old) (D.faults store.old) (D.faults store.new)
         (D.reads store.old) (D.reads store.new)) }
 {
-    let _untouched = &*store;
     let mut found = Vec::new(alloc);
     for word in words {
         put_word(store, &mut found, word, frames, parts)?;
