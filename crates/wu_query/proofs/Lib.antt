@@ -31,4 +31,5 @@ pub mod WordsInFrames
 pub mod UserTerms
 pub mod PermittedBlocks
 pub mod PermittedTexts
+pub mod FetchedAlone
 pub mod ExportedFiles

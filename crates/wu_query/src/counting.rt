@@ -22,7 +22,8 @@ use wu_outside::Store;
 use wu_parts::Parts;
 use wu_solve::{count_apart, only_term};
 
-/// How many extents the expression has over the user's view, and in how many of its files.
+/// How many extents the expression has over the user's view, and in how many of its files. They are made of the
+/// lists of its terms, where it isn't a term alone.
 pub fn count<D: Store>(
     alloc: Global,
     store: &mut D,
@@ -40,13 +41,19 @@ pub fn count<D: Store>(
     ensures cause { IfErr result (IsCauseFor parts.old frames.now.ranges (named_in (region_of expr.now)) (D.holds store.old)
         (D.faults store.old) (D.faults store.new) (D.reads store.old) (D.reads store.new)) }
 {
-    match only_term(expr) {
-        Some(term) => count_term(store, frames, parts, term),
-        None => count_lists(alloc, store, frames, parts, expr),
+    if let Some(term) = only_term(expr) {
+        return count_term(store, frames, parts, term);
     }
+    let terms = terms_of(alloc, expr)?;
+    let lists = lists_of(alloc, store, &terms, frames, parts)?;
+    let counts = count_apart(alloc, expr, frames.ranges.as_slice(), &lists)?;
+    Ok(Answered::Count {
+        hits: counts.hits,
+        files: counts.files,
+    })
 }
 
-/// The same of an expression that is the term alone: each of the term's addresses is an extent.
+/// The same of an expression that is the term alone: each of the term's addresses is an extent, and no list is made.
 fn count_term<D: Store>(
     store: &mut D,
     frames: &Frames,
@@ -68,32 +75,5 @@ fn count_term<D: Store>(
     Ok(Answered::Count {
         hits: tally.hits,
         files: tally.frames,
-    })
-}
-
-/// The same, by the extents that are made of the lists of the expression's terms.
-fn count_lists<D: Store>(
-    alloc: Global,
-    store: &mut D,
-    frames: &Frames,
-    parts: &mut Parts,
-    expr: &Expr,
-) -> Result<Answered, Trouble>
-    requires { CanBeSearched frames.now }
-    ensures answer { IfOk result (λ answered. (live : Ranges) (s : State) (uid : ℕ) → Indexes frames.now live s uid
-        → TellsPostings parts.old (D.holds store.old) s → answered ≡ answer (view_of s uid) (Counting (region_of expr.now))) }
-    ensures blocks { OnOk result (Asks (blocks_for parts.old frames.now.ranges (named_in (region_of expr.now))) (D.holds store.old)
-        parts.old.kept parts.new.kept (D.reads store.old) (D.reads store.new)) }
-    ensures others { parts.new ≡ record parts.old { kept = parts.new.kept } }
-    ensures store { OnlyReads D.Store store.old store.new result }
-    ensures cause { IfErr result (IsCauseFor parts.old frames.now.ranges (named_in (region_of expr.now)) (D.holds store.old)
-        (D.faults store.old) (D.faults store.new) (D.reads store.old) (D.reads store.new)) }
-{
-    let terms = terms_of(alloc, expr)?;
-    let lists = lists_of(alloc, store, &terms, frames, parts)?;
-    let counts = count_apart(alloc, expr, frames.ranges.as_slice(), &lists)?;
-    Ok(Answered::Count {
-        hits: counts.hits,
-        files: counts.files,
     })
 }

@@ -8,7 +8,7 @@ ghost use Rattle.wu_outside.specs.Reading.{OnlyReads};
 ghost use Rattle.wu_query.specs.Asked.{blocks_for};
 ghost use Rattle.wu_query.specs.States.{State};
 ghost use Rattle.wu_query.specs.Searched.{TellsPostings};
-ghost use Rattle.wu_query.specs.Units.{CanBeSearched, IsCauseFor, found_in, list_at, wanted};
+ghost use Rattle.wu_query.specs.Units.{CanBeSearched, IsCauseFor, found_in, list_at, terms_among};
 
 use std::alloc::Global;
 use wu_base::{Bytes, TermList, Trouble};
@@ -56,7 +56,7 @@ pub fn lists_of_words<D: Store>(
 ) -> Result<Vec<TermList>, Trouble>
     requires { CanBeSearched frames.now }
     ensures lists { IfOk result (λ lists. (s : State) → TellsPostings parts.old (D.holds store.old) s
-        → lists.items ≡ map (list_at (found_in frames.now.ranges s)) (wanted words.now terms.now)) }
+        → lists.items ≡ map (list_at (found_in frames.now.ranges s)) (terms_among words.now terms.now)) }
     ensures ascending { IfOk result (λ lists. All (λ list. IsStrictlyIncreasing list.at) lists.items) }
     ensures blocks { OnOk result (Asks (blocks_for parts.old frames.now.ranges terms.now) (D.holds store.old)
         parts.old.kept parts.new.kept (D.reads store.old) (D.reads store.new)) }
@@ -83,7 +83,7 @@ fn put_list<D: Store>(
 ) -> Result<(), Trouble>
     requires { CanBeSearched frames.now }
     ensures lists { OnOk result ((s : State) → TellsPostings parts.old (D.holds store.old) s → lists.new.items
-        ≡ lists.old.items ++ map (list_at (found_in frames.now.ranges s)) (wanted words.now (term.now ∷ []))) }
+        ≡ lists.old.items ++ map (list_at (found_in frames.now.ranges s)) (terms_among words.now (term.now ∷ []))) }
     ensures ascending { OnOk result (All (λ list. IsStrictlyIncreasing list.at) lists.old.items
         → All (λ list. IsStrictlyIncreasing list.at) lists.new.items) }
     ensures blocks { OnOk result (Asks (blocks_for parts.old frames.now.ranges (term.now ∷ [])) (D.holds store.old)

@@ -21,7 +21,7 @@ use crate::counting::count;
 use crate::exporting::export;
 use crate::finding::find;
 use crate::listing::paths;
-use crate::ranking::{ranked, weighed};
+use crate::ranking::{Wanted, ranked};
 use crate::terms::user_terms;
 use std::alloc::Global;
 use std::collections::BTreeMap;
@@ -106,18 +106,16 @@ fn answer<D: Store>(
     match ask {
         Ask::Count { expr } => count(alloc, store, frames, parts, expr),
         Ask::Find { k, expr } => find(alloc, store, frames, parts, files, *k, expr),
-        Ask::Rank { k, unit, words } => {
-            ranked(
-                alloc,
-                store,
-                frames,
-                space,
-                parts,
-                *k,
-                unit,
-                words.as_slice(),
-            )
-        }
+        Ask::Rank { k, unit, words } => ranked(
+            alloc,
+            store,
+            frames,
+            space,
+            parts,
+            Wanted::Best { k: *k },
+            unit,
+            words.as_slice(),
+        ),
         Ask::Paths => Ok(paths(alloc, frames.seen.as_slice())?),
         Ask::Terms { k, prefix, top } => user_terms(
             alloc,
@@ -129,17 +127,15 @@ fn answer<D: Store>(
             *top,
         ),
         Ask::Export => export(alloc, store, frames, files),
-        Ask::Weighed { k, unit, words } => {
-            weighed(
-                alloc,
-                store,
-                frames,
-                space,
-                parts,
-                *k,
-                unit,
-                words.as_slice(),
-            )
-        }
+        Ask::Weighed { k, unit, words } => ranked(
+            alloc,
+            store,
+            frames,
+            space,
+            parts,
+            Wanted::Weighed { k: *k },
+            unit,
+            words.as_slice(),
+        ),
     }
 }

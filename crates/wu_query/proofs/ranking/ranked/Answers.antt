@@ -5,12 +5,12 @@ use Rattle.wu_base.specs.declared.addresses.TermList.{TermList}
 use Rattle.wu_gcl.specs.Regions.{region_of}
 use Rattle.wu_gcl.specs.Terms.{AreTerms}
 use Rattle.wu_query.specs.Asked.{terms_of, with_words}
-use Rattle.wu_query.specs.Units.{wanted}
+use Rattle.wu_query.specs.Units.{terms_among}
 use Rattle.wu_query.proofs.AskedTerms.{enough_asked, first_asked, terms_named, wanted_among, words_among}
 use Rattle.wu_query.proofs.PassedCauses.{cause_at_last, cause_at_once, cause_passed}
-use Rattle.wu_query.proofs.ranking.answer_for.Given as given
-use Rattle.wu_query.proofs.ranking.answer_for.Goals as goal
-use Rattle.wu_query.proofs.ranking.answer_for.Goals.{In_ok-asked}
+use Rattle.wu_query.proofs.ranking.ranked.Given as given
+use Rattle.wu_query.proofs.ranking.ranked.Goals as goal
+use Rattle.wu_query.proofs.ranking.ranked.Goals.{In_ok-asked}
 
 pub returns-in_err-terms-clause-cause : goal.returns-in_err-terms-clause-cause
 returns-in_err-terms-clause-cause g c =
@@ -38,7 +38,7 @@ returns-in-File-clause-answer g c = λ s uid is tells.
     let asked = with_words c.in_ok-terms.terms.items words in
     let e : c.deref.result.now ≡ asked = c.deref.ensures.value ∙ c.in_ok-asked.ensures in
     rw c.in-File.is
-    (c.in_ok-rank_file_lists-in-File.ensures s uid is (wanted words asked)
+    (c.in_ok-rank_file_lists-in-File.ensures s uid is (terms_among words asked)
     (c.deref-in-File.ensures.value ∙ (rw e at c.in_ok-lists-in-File.ensures.lists s tells))
     (wanted_among asked words (words_among c.in_ok-terms.terms.items words)))
 
