@@ -90,7 +90,8 @@ each_among [] = tt
 each_among (word ∷ words) =
     (rw (nat_list_eq_equiv.refl word) refl, among_more word words words (each_among words))
 
-word_wanted : (words terms : List (List ℕ)) (word : List ℕ) → IsAmong words word → IsAmong terms word → IsAmong (terms_among words terms) word
+word_wanted : (words terms : List (List ℕ)) (word : List ℕ) → IsAmong words word → IsAmong terms word
+    → IsAmong (terms_among words terms) word
 word_wanted words [] word has is = is
 word_wanted words (term ∷ terms) word has is =
     by (list_any (pointwise nat_eq term) words) (pointwise nat_eq word term) refl refl is (word_wanted words terms word has) where

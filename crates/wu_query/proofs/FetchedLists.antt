@@ -69,7 +69,8 @@ module _ (terms : List (List ℕ)) (i : ℕ) (term : List ℕ) (within : i < len
       put ∙ ap (λ (ls : List TermList). ls ++ map (list_at found) (terms_among words (term ∷ []))) before
       ∙ sym (map-append (list_at found) (terms_among words (take i terms)) (terms_among words (term ∷ [])))
       ∙ ap (map (list_at found))
-      (sym (filter-append (λ (t : List ℕ). list_any (pointwise nat_eq t) words) (take i terms) (term ∷ [])) ∙ ap (terms_among words) (sym taken))
+      (sym (filter-append (λ (t : List ℕ). list_any (pointwise nat_eq t) words) (take i terms) (term ∷ []))
+      ∙ ap (terms_among words) (sym taken))
 
   pub named_next : (lists now : List TermList) (list : TermList) → map (λ list. list.term) lists ≡ take i terms
       → now ≡ lists ++ list ∷ [] → list.term ≡ term → map (λ list. list.term) now ≡ take (i + 1) terms
@@ -90,8 +91,8 @@ module _ (terms : List (List ℕ)) (i : ℕ) (term : List ℕ) (within : i < len
     pub told_then : (s : State) → TellsPostings first (Store.holds old) s → TellsPostings between (Store.holds middle) s
     told_then s tells =
         rw so_far.holds
-        (still_told first frames (take i terms) between.kept between s (Store.holds old) (Store.reads old) (Store.reads middle) so_far.others
-        tells so_far.blocks)
+        (still_told first frames (take i terms) between.kept between s (Store.holds old) (Store.reads old) (Store.reads middle)
+        so_far.others tells so_far.blocks)
 
     -- and now it was asked for too
     pub asked_then : {T : Type 0} {value : T} {now : Contents} {new : D}
@@ -124,7 +125,8 @@ module _ (terms : List (List ℕ)) (i : ℕ) (term : List ℕ) (within : i < len
     pub cause_then : {T : Type 0} (r : Result T Trouble) {new : D} {trouble : Trouble} → IsErrAnd r (λ error. error ≡ trouble)
         → IsCauseFor between frames (term ∷ []) (Store.holds middle) (Store.faults middle) (Store.faults new) (Store.reads middle)
         (Store.reads new) trouble
-        → IfErr r (IsCauseFor first frames terms (Store.holds old) (Store.faults old) (Store.faults new) (Store.reads old) (Store.reads new))
+        → IfErr r (IsCauseFor first frames terms (Store.holds old) (Store.faults old) (Store.faults new) (Store.reads old)
+        (Store.reads new))
     cause_then r {new} {trouble} passed cause =
         err_from
         (IsCauseFor first frames terms (Store.holds old) (Store.faults old) (Store.faults new) (Store.reads old) (Store.reads new))

@@ -13,10 +13,9 @@ use Rattle.wu_query.proofs.querying.answer.Goals as goal
 use Rattle.wu_query.proofs.querying.answer.Goals.{After-count, After-ranked, After-ranked-in-Weighed, After-user_terms}
 
 counted : (g : given.Over) (c : After-count g)
-    → OnlyFetches g.D.Store c.args.frames.now (Counting (region_of c.in-Count.expr)) c.args.files.now.entries c.args.parts.now c.count.new.parts
-    c.args.store.now c.count.new.store c.count.result
-counted g c =
-    only_fetches tt c.count.ensures.blocks c.count.ensures.cause
+    → OnlyFetches g.D.Store c.args.frames.now (Counting (region_of c.in-Count.expr)) c.args.files.now.entries
+    c.args.parts.now c.count.new.parts c.args.store.now c.count.new.store c.count.result
+counted g c = only_fetches tt c.count.ensures.blocks c.count.ensures.cause
 
 pub returns-in-Count-clause-answer : goal.returns-in-Count-clause-answer
 returns-in-Count-clause-answer g c =
@@ -47,10 +46,11 @@ pub returns-in-Find-clause-reads : goal.returns-in-Find-clause-reads
 returns-in-Find-clause-reads g c = rw c.in-Find.is c.find.ensures.reads
 
 ranked : (g : given.Over) (c : After-ranked g)
-    → OnlyFetches g.D.Store c.args.frames.now (Ranking c.in-Rank.k (region_of c.in-Rank.unit) c.in-Rank.words) c.args.files.now.entries c.args.parts.now c.ranked.new.parts
-    c.args.store.now c.ranked.new.store c.ranked.result
+    → OnlyFetches g.D.Store c.args.frames.now (Ranking c.in-Rank.k (region_of c.in-Rank.unit) c.in-Rank.words)
+    c.args.files.now.entries c.args.parts.now c.ranked.new.parts c.args.store.now c.ranked.new.store c.ranked.result
 ranked g c =
-    only_fetches tt (rw c.as_slice.ensures at c.ranked.ensures.blocks) (rw c.as_slice.ensures at c.ranked.ensures.cause)
+    only_fetches tt (rw c.as_slice.ensures at c.ranked.ensures.blocks)
+    (rw c.as_slice.ensures at c.ranked.ensures.cause)
 
 pub returns-in-Rank-clause-answer : goal.returns-in-Rank-clause-answer
 returns-in-Rank-clause-answer g c =
@@ -90,10 +90,11 @@ pub returns-in_err-paths-in-Paths-clause-cause : goal.returns-in_err-paths-in-Pa
 returns-in_err-paths-in-Paths-clause-cause g c = cause_of_memory c.from_residual.result _ _ _ refl c.from_residual.ensures.1
 
 listed : (g : given.Over) (c : After-user_terms g)
-    → OnlyFetches g.D.Store c.args.frames.now (ListingTerms c.in-Terms.k c.in-Terms.prefix c.in-Terms.top) c.args.files.now.entries c.args.parts.now c.user_terms.new.parts
-    c.args.store.now c.user_terms.new.store c.user_terms.result
+    → OnlyFetches g.D.Store c.args.frames.now (ListingTerms c.in-Terms.k c.in-Terms.prefix c.in-Terms.top)
+    c.args.files.now.entries c.args.parts.now c.user_terms.new.parts c.args.store.now c.user_terms.new.store c.user_terms.result
 listed g c =
-    only_fetches tt (rw c.as_slice-in-Terms.ensures at c.user_terms.ensures.blocks) (rw c.as_slice-in-Terms.ensures at c.user_terms.ensures.cause)
+    only_fetches tt (rw c.as_slice-in-Terms.ensures at c.user_terms.ensures.blocks)
+    (rw c.as_slice-in-Terms.ensures at c.user_terms.ensures.cause)
 
 pub returns-in-Terms-clause-answer : goal.returns-in-Terms-clause-answer
 returns-in-Terms-clause-answer g c =
@@ -138,10 +139,11 @@ returns-in-Export-clause-cause g c =
     cause))
 
 weighed : (g : given.Over) (c : After-ranked-in-Weighed g)
-    → OnlyFetches g.D.Store c.args.frames.now (Weighing c.in-Weighed.k (region_of c.in-Weighed.unit) c.in-Weighed.words) c.args.files.now.entries c.args.parts.now c.ranked-in-Weighed.new.parts
-    c.args.store.now c.ranked-in-Weighed.new.store c.ranked-in-Weighed.result
+    → OnlyFetches g.D.Store c.args.frames.now (Weighing c.in-Weighed.k (region_of c.in-Weighed.unit) c.in-Weighed.words)
+    c.args.files.now.entries c.args.parts.now c.ranked-in-Weighed.new.parts c.args.store.now c.ranked-in-Weighed.new.store c.ranked-in-Weighed.result
 weighed g c =
-    only_fetches tt (rw c.as_slice-in-Weighed.ensures at c.ranked-in-Weighed.ensures.blocks) (rw c.as_slice-in-Weighed.ensures at c.ranked-in-Weighed.ensures.cause)
+    only_fetches tt (rw c.as_slice-in-Weighed.ensures at c.ranked-in-Weighed.ensures.blocks)
+    (rw c.as_slice-in-Weighed.ensures at c.ranked-in-Weighed.ensures.cause)
 
 pub returns-in-Weighed-clause-answer : goal.returns-in-Weighed-clause-answer
 returns-in-Weighed-clause-answer g c =

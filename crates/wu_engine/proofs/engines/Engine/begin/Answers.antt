@@ -16,26 +16,31 @@ returns-in-Some-clause-goes g c = rw (c.open_root.ensures.store.holds ∙ c.sync
 
 pub returns-in-Some-clause-open : goal.returns-in-Some-clause-open
 returns-in-Some-clause-open g c =
-    rw (c.open_root.ensures.store.holds ∙ c.sync.ensures.same, c.open_root.ensures.reads ∙ c.sync.ensures.unread) at c.open_saved.ensures.open
+    rw (c.open_root.ensures.store.holds ∙ c.sync.ensures.same, c.open_root.ensures.reads ∙ c.sync.ensures.unread)
+    at c.open_saved.ensures.open
 
 pub returns-in-Some-clause-holds : goal.returns-in-Some-clause-holds
 returns-in-Some-clause-holds g c = c.open_saved.ensures.store.holds ∙ (c.open_root.ensures.store.holds ∙ c.sync.ensures.same)
 
 pub returns-in-Some-clause-settled : goal.returns-in-Some-clause-settled
 returns-in-Some-clause-settled g c =
-    on_any_ok _ c.open_saved.result (c.open_saved.ensures.store.moments ∙ (c.open_root.ensures.store.moments ∙ c.in_ok-sync.ensures.settled))
+    on_any_ok _ c.open_saved.result
+    (c.open_saved.ensures.store.moments ∙ (c.open_root.ensures.store.moments ∙ c.in_ok-sync.ensures.settled))
 
 pub returns-in-Some-clause-still : goal.returns-in-Some-clause-still
 returns-in-Some-clause-still g c =
-    on_any_err _ c.open_saved.result (inr (c.open_saved.ensures.store.moments ∙ (c.open_root.ensures.store.moments ∙ c.in_ok-sync.ensures.settled)))
+    on_any_err _ c.open_saved.result
+    (inr (c.open_saved.ensures.store.moments ∙ (c.open_root.ensures.store.moments ∙ c.in_ok-sync.ensures.settled)))
 
 pub returns-in-Some-clause-reads : goal.returns-in-Some-clause-reads
 returns-in-Some-clause-reads g c =
-    rw (c.open_root.ensures.store.holds ∙ c.sync.ensures.same, c.open_root.ensures.reads ∙ c.sync.ensures.unread) at c.open_saved.ensures.reads
+    rw (c.open_root.ensures.store.holds ∙ c.sync.ensures.same, c.open_root.ensures.reads ∙ c.sync.ensures.unread)
+    at c.open_saved.ensures.reads
 
 pub returns-in-Some-clause-calm : goal.returns-in-Some-clause-calm
 returns-in-Some-clause-calm g c =
-    on_ok_weaker c.open_saved.result (λ e. e ∙ (c.in_ok-open_root.ensures.store.calm ∙ c.in_ok-sync.ensures.cause.calm)) c.open_saved.ensures.store.calm
+    on_ok_weaker c.open_saved.result (λ e. e ∙ (c.in_ok-open_root.ensures.store.calm ∙ c.in_ok-sync.ensures.cause.calm))
+    c.open_saved.ensures.store.calm
 
 pub returns-in-Some-clause-cause : goal.returns-in-Some-clause-cause
 returns-in-Some-clause-cause g c =
