@@ -140,7 +140,8 @@ returns-in-Export-clause-cause g c =
 
 weighed : (g : given.Over) (c : After-ranked-in-Weighed g)
     → OnlyFetches g.D.Store c.args.frames.now (Weighing c.in-Weighed.k (region_of c.in-Weighed.unit) c.in-Weighed.words)
-    c.args.files.now.entries c.args.parts.now c.ranked-in-Weighed.new.parts c.args.store.now c.ranked-in-Weighed.new.store c.ranked-in-Weighed.result
+    c.args.files.now.entries c.args.parts.now c.ranked-in-Weighed.new.parts c.args.store.now c.ranked-in-Weighed.new.store
+    c.ranked-in-Weighed.result
 weighed g c =
     only_fetches tt (rw c.as_slice-in-Weighed.ensures at c.ranked-in-Weighed.ensures.blocks)
     (rw c.as_slice-in-Weighed.ensures at c.ranked-in-Weighed.ensures.cause)
