@@ -17,7 +17,7 @@ AnswersAgain before after store store_after result =
     (trouble : Trouble) → before.ended ≡ Some trouble → (result ≡ Err trouble) × (after ≡ before) × (store_after ≡ store)
 
 -- all but the trouble that ended it is as it was
-pub record IsAsBefore (before after : Engine) : Type 0 where
+pub record IsSameEngine (before after : Engine) : Type 0 where
   pub tree : after.tree ≡ before.tree
   pub files : after.files ≡ before.files
   pub space : after.space ≡ before.space

@@ -24,7 +24,7 @@ impl Engine {
     ghost use Rattle.wu_engine.specs.Stands.{KeepsOthers, Stands, leaves_store, taken_by, verdict_of};
     ghost use Rattle.wu_engine.specs.Causes.{HasTroubleCause};
     ghost use Rattle.wu_engine.specs.Naming.{AddsNamed};
-    ghost use Rattle.wu_engine.specs.Calls.{AnswersAgain, IsAsBefore, LeavesLast, DrawsAtMost, StillGoes};
+    ghost use Rattle.wu_engine.specs.Calls.{AnswersAgain, IsSameEngine, LeavesLast, DrawsAtMost, StillGoes};
     ghost use Rattle.wu_engine.specs.Going.{Goes, HasBroken};
     ghost use Rattle.wu_engine.specs.declared.verdicts.Verdict.TheVariants.{Refused};
     ghost use Rattle.wu_engine.specs.Puts.{MayTryPut, MayTryPuts};
@@ -65,7 +65,7 @@ impl Engine {
         ensures numbers { DrawsAtMost 2 self.old.parts self.new.parts }
         ensures checkpoint { self.new.checkpoint ≡ self.old.checkpoint }
         // A refused event leaves all of the engine.
-        ensures refused { (refusal : Refusal) → result ≡ Ok (Refused refusal) → IsAsBefore self.old self.new }
+        ensures refused { (refusal : Refusal) → result ≡ Ok (Refused refusal) → IsSameEngine self.old self.new }
         // What is left of the kept frames: a refused event leaves all, another those of all users whom it doesn't concern.
         ensures frames { IfOk result (λ verdict. LeavesFrames verdict self.new.tree
             (touched_of self.old.tree self.old.space.ranges event.now) self.old.frames self.new.frames) }

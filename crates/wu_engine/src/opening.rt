@@ -7,6 +7,7 @@ ghost use Rattle.lru.specs.LruCache.{lru_cache};
 ghost use Rattle.wu_base.specs.declared.limits.TheConstants.{BLOBS_SPENT_AT, SPENT_AT};
 ghost use Rattle.wu_outside.specs.Content.{Content};
 ghost use Rattle.wu_outside.specs.Faults.{HasFaultCause};
+ghost use Rattle.wu_outside.specs.Reading.{OnlyReads};
 ghost use Rattle.wu_space.specs.Addresses.{AreLive};
 ghost use Rattle.wu_image.specs.Checkpoints.{IsCheckpoint};
 ghost use Rattle.wu_query.specs.States.{State};
@@ -34,10 +35,8 @@ use wu_tree::Tree;
 pub(crate) fn open_root<D: Store>(store: &mut D) -> Result<Option<Root>, BeginFault>
     ensures found { IfOk result (λ found. IfSome (D.holds store.old) (FindsRoot found)) }
     ensures room { IfOk result (λ found. IfSome found HasRoom) }
-    ensures holds { D.holds store.new ≡ D.holds store.old }
-    ensures moments { D.moments store.new ≡ D.moments store.old }
+    ensures store { OnlyReads D.Store store.old store.new result }
     ensures reads { D.reads store.new ≡ D.reads store.old }
-    ensures calm { OnOk result (D.faults store.new ≡ D.faults store.old) }
     ensures cause { IfErr result (IsBeginCause (D.holds store.old) (D.faults store.old) (D.faults store.new)) }
     ensures spent { IsSpentWhere (D.holds store.old) result }
 {
@@ -123,10 +122,8 @@ pub(crate) fn open_saved<D: Store>(
     ensures frames { IfOk result (λ engine. engine.frames ≡ []) }
     ensures drawn { IfOk result (λ engine. engine.parts.next_blob ≡ root.now.next_blob) }
     ensures goes_on { IfOk result (λ engine. engine.ended ≡ None) }
-    ensures holds { D.holds store.new ≡ D.holds store.old }
-    ensures moments { D.moments store.new ≡ D.moments store.old }
+    ensures store { OnlyReads D.Store store.old store.new result }
     ensures reads { ReadsAtOpening (D.holds store.old) (D.reads store.old) (D.reads store.new) }
-    ensures calm { OnOk result (D.faults store.new ≡ D.faults store.old) }
     ensures cause { IfErr result (IsBeginCause (D.holds store.old) (D.faults store.old) (D.faults store.new)) }
 {
     let checkpoint = open_checkpoint(alloc, store, root)?;
@@ -189,11 +186,9 @@ fn open_checkpoint<D: Store>(
     ensures saved { IfOk result (λ checkpoint. IfSome (D.holds store.old) (λ content. HasCheckpoint content root.now checkpoint)) }
     ensures rules { IfOk result IsCheckpoint }
     ensures own { IfOk result (MatchesRoot root.now) }
-    ensures holds { D.holds store.new ≡ D.holds store.old }
-    ensures moments { D.moments store.new ≡ D.moments store.old }
+    ensures store { OnlyReads D.Store store.old store.new result }
     ensures read { OnOk result (ReadsCheckpoint root.now (D.reads store.old) (D.reads store.new)) }
     ensures reads { (D.reads store.new ≡ D.reads store.old) ⊎ ReadsCheckpoint root.now (D.reads store.old) (D.reads store.new) }
-    ensures calm { OnOk result (D.faults store.new ≡ D.faults store.old) }
     ensures cause { IfErr result (IsBeginCause (D.holds store.old) (D.faults store.old) (D.faults store.new)) }
 {
     let found = checkpoint_in(alloc, store, root)?;
@@ -224,8 +219,7 @@ fn checkpoint_in<D: Store>(
     ensures found { IfOk result (λ found. IfSome (D.holds store.old)
         (λ content. IsFoundIn root.now.size (content.blobs root.now.checkpoint) found)) }
     ensures rules { IfOk result (λ found. IfSome found IsCheckpoint) }
-    ensures holds { D.holds store.new ≡ D.holds store.old }
-    ensures moments { D.moments store.new ≡ D.moments store.old }
+    ensures store { OnlyReads D.Store store.old store.new result }
     ensures read { IfOk result (λ found. OnSome found (ReadsCheckpoint root.now (D.reads store.old) (D.reads store.new))) }
     ensures reads { (D.reads store.new ≡ D.reads store.old) ⊎ ReadsCheckpoint root.now (D.reads store.old) (D.reads store.new) }
     ensures cause { HasFaultCause (D.faults store.old) (D.faults store.new) result }
@@ -243,8 +237,7 @@ fn named_blob<D: Store>(alloc: Global, store: &mut D, root: &Root) -> Result<Opt
     ensures size { IfOk result (λ found. IfSome found (λ bytes. length bytes.items ≡ root.now.size)) }
     ensures none { IfOk result (λ found. IfNone found (IfSome (D.holds store.old)
         (λ content. IsFoundIn root.now.size (content.blobs root.now.checkpoint) None))) }
-    ensures holds { D.holds store.new ≡ D.holds store.old }
-    ensures moments { D.moments store.new ≡ D.moments store.old }
+    ensures store { OnlyReads D.Store store.old store.new result }
     ensures read { IfOk result (λ found. OnSome found (ReadsCheckpoint root.now (D.reads store.old) (D.reads store.new))) }
     ensures reads { (D.reads store.new ≡ D.reads store.old) ⊎ ReadsCheckpoint root.now (D.reads store.old) (D.reads store.new) }
     ensures cause { HasFaultCause (D.faults store.old) (D.faults store.new) result }

@@ -4,6 +4,7 @@ ghost use Rattle.std.specs.Prelude.{◌≡◌, ℕ, ◌+◌, ◌++◌, ◌<◌, 
 ghost use Rattle.std.specs.List.{AllByRecursion};
 ghost use Rattle.wu_base.specs.declared.limits.TheConstants.{SPENT_AT};
 ghost use Rattle.wu_token.specs.Tokens.{tokens_of};
+ghost use Rattle.wu_outside.specs.Reading.{OnlyReads};
 ghost use Rattle.wu_parts.specs.Contents.{no_contents};
 ghost use Rattle.wu_parts.specs.Memory.{Gains, HasPostings, no_postings};
 ghost use Rattle.wu_image.specs.Checkpoints.{IsCheckpoint};
@@ -38,10 +39,8 @@ pub(crate) fn open_index<D: Store>(
     requires room { checkpoint.now.next_address < SPENT_AT }
     ensures opened { IfOk result (IsIndexOpened (D.holds store.old) version checkpoint.now flush_at
         (D.reads store.old) (D.reads store.new)) }
-    ensures holds { D.holds store.new ≡ D.holds store.old }
-    ensures moments { D.moments store.new ≡ D.moments store.old }
+    ensures store { OnlyReads D.Store store.old store.new result }
     ensures reads { ReadsIndex (D.holds store.old) version checkpoint.now (D.reads store.old) (D.reads store.new) }
-    ensures calm { OnOk result (D.faults store.new ≡ D.faults store.old) }
     ensures cause { IfErr result (IsIndexCause (D.holds store.old) version checkpoint.now (D.faults store.old) (D.faults store.new)) }
 {
     if version == 1 {
@@ -68,10 +67,8 @@ fn reindex<D: Store>(
     requires rules { IsCheckpoint checkpoint.now }
     requires room { checkpoint.now.next_address < SPENT_AT }
     ensures opened { IfOk result (IsReindexed (D.holds store.old) checkpoint.now flush_at (D.reads store.old) (D.reads store.new)) }
-    ensures holds { D.holds store.new ≡ D.holds store.old }
-    ensures moments { D.moments store.new ≡ D.moments store.old }
+    ensures store { OnlyReads D.Store store.old store.new result }
     ensures reads { ReadsOnly (IsTextOfOne checkpoint.now.files) (D.reads store.old) (D.reads store.new) }
-    ensures calm { OnOk result (D.faults store.new ≡ D.faults store.old) }
     ensures cause { IfErr result (IsCause (IsFirstBrokenText (D.holds store.old) checkpoint.now.files)
         (D.faults store.old) (D.faults store.new) (D.reads store.old) (D.reads store.new)) }
 {
@@ -135,11 +132,9 @@ fn index_texts<D: Store>(
     ensures below { OnOk result ((next : ℕ) → AllByRecursion (λ file. file.range.start + file.range.len ≤ next) files.now
         → parts.new.memory.end ≤ next) }
     ensures others { OnOk result (parts.new ≡ record parts.old { memory = parts.new.memory }) }
-    ensures holds { D.holds store.new ≡ D.holds store.old }
-    ensures moments { D.moments store.new ≡ D.moments store.old }
+    ensures store { OnlyReads D.Store store.old store.new result }
     ensures reads { OnOk result (D.reads store.new ≡ option_map (λ ranges. ranges ++ texts_whole files.now) (D.reads store.old)) }
     ensures only { ReadsOnly (IsTextOfOne files.now) (D.reads store.old) (D.reads store.new) }
-    ensures calm { OnOk result (D.faults store.new ≡ D.faults store.old) }
     ensures cause { IfErr result (IsCause (IsFirstOfBroken (D.holds store.old) files.now)
         (D.faults store.old) (D.faults store.new) (D.reads store.old) (D.reads store.new)) }
 {
@@ -165,12 +160,10 @@ fn index_text<D: Store>(
         × Gains file.now.range.start (tokens_of (text_held content file.now)) parts.old.memory parts.new.memory)) }
     ensures end { OnOk result (parts.new.memory.end ≡ file.now.range.start + file.now.range.len) }
     ensures others { OnOk result (parts.new ≡ record parts.old { memory = parts.new.memory }) }
-    ensures holds { D.holds store.new ≡ D.holds store.old }
-    ensures moments { D.moments store.new ≡ D.moments store.old }
+    ensures store { OnlyReads D.Store store.old store.new result }
     ensures reads { OnOk result (D.reads store.new
         ≡ option_map (λ ranges. ranges ++ whole_text file.now.blob file.now.len) (D.reads store.old)) }
     ensures only { ReadsOnly (λ range. whole_text file.now.blob file.now.len ≡ range ∷ []) (D.reads store.old) (D.reads store.new) }
-    ensures calm { OnOk result (D.faults store.new ≡ D.faults store.old) }
     ensures cause { IfErr result (IsCause (IsBrokenIn (D.holds store.old) file.now)
         (D.faults store.old) (D.faults store.new) (D.reads store.old) (D.reads store.new)) }
 {

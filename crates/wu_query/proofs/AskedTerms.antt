@@ -17,7 +17,7 @@ use Rattle.wu_base.specs.declared.addresses.TermList.{TermList}
 use Rattle.wu_gcl.specs.Regions.{Region}
 use Rattle.wu_gcl.specs.Terms.{AreTerms, terms_in}
 use Rattle.wu_query.specs.Asked.{terms_of, with_word, with_words}
-use Rattle.wu_query.specs.Units.{IsAmong, list_at, list_in, wanted}
+use Rattle.wu_query.specs.Units.{IsAmong, list_at, list_in, terms_among}
 
 -- the terms of an expression are the sorted ones
 pub terms_named : (region : Region) (terms : List (List ℕ)) → AreTerms region terms → terms ≡ terms_of region
@@ -90,17 +90,18 @@ each_among [] = tt
 each_among (word ∷ words) =
     (rw (nat_list_eq_equiv.refl word) refl, among_more word words words (each_among words))
 
-word_wanted : (words terms : List (List ℕ)) (word : List ℕ) → IsAmong words word → IsAmong terms word → IsAmong (wanted words terms) word
+word_wanted : (words terms : List (List ℕ)) (word : List ℕ) → IsAmong words word → IsAmong terms word
+    → IsAmong (terms_among words terms) word
 word_wanted words [] word has is = is
 word_wanted words (term ∷ terms) word has is =
     by (list_any (pointwise nat_eq term) words) (pointwise nat_eq word term) refl refl is (word_wanted words terms word has) where
       by : (kept here : Bool) → list_any (pointwise nat_eq term) words ≡ kept → pointwise nat_eq word term ≡ here
           → (here || list_any (pointwise nat_eq word) terms) ≡ true
-          → (IsAmong terms word → IsAmong (wanted words terms) word)
-          → IsAmong (cond kept (term ∷ wanted words terms) (wanted words terms)) word
+          → (IsAmong terms word → IsAmong (terms_among words terms) word)
+          → IsAmong (cond kept (term ∷ terms_among words terms) (terms_among words terms)) word
       by true true kept here more later = rw here refl
       by true false kept here more later =
-          let rest : list_any (pointwise nat_eq word) (wanted words terms) ≡ true = later more in
+          let rest : list_any (pointwise nat_eq word) (terms_among words terms) ≡ true = later more in
           rw rest (or-true (pointwise nat_eq word term))
       by false true kept here more later =
           let same : list_any (pointwise nat_eq term) words ≡ true =
@@ -110,10 +111,10 @@ word_wanted words (term ∷ terms) word has is =
 
 -- each word that is among the terms is among those of them that are words
 pub wanted_among : (terms words : List (List ℕ)) → AllByRecursion (IsAmong terms) words
-    → AllByRecursion (IsAmong (wanted words terms)) words
+    → AllByRecursion (IsAmong (terms_among words terms)) words
 wanted_among terms words among = each words (each_among words) among where
   each : (ws : List (List ℕ)) → AllByRecursion (IsAmong words) ws → AllByRecursion (IsAmong terms) ws
-      → AllByRecursion (IsAmong (wanted words terms)) ws
+      → AllByRecursion (IsAmong (terms_among words terms)) ws
   each [] own others = tt
   each (word ∷ ws) own others = (word_wanted words terms word own.0 others.0, each ws own.1 others.1)
 

@@ -8,18 +8,21 @@ use Rattle.wu_outside.specs.Content.{Content}
 use Rattle.wu_outside.specs.declared.ranges.ReadRange.{ReadRange}
 use Rattle.wu_lists.proofs.Asking.{ranges-none}
 use Rattle.wu_ask.specs.declared.Found.{Found}
-use Rattle.wu_ask.specs.Questions.{Counting, Ranking, ListingPaths, ListingTerms, Weighing}
+use Rattle.wu_ask.specs.Questions.{Question, Counting, Finding, Ranking, ListingPaths, ListingTerms, Exporting, Weighing}
 use Rattle.wu_base.specs.declared.addresses.Extent.{Extent}
 use Rattle.wu_base.specs.declared.addresses.TermList.{TermList}
 use Rattle.wu_gcl.specs.Regions.{Region}
 use Rattle.wu_layout.proofs.EntryLemmas.{IfSome-map2}
 use Rattle.wu_image.specs.declared.records.FileRec.{FileRec}
 use Rattle.wu_view.specs.declared.Seen.{Seen}
+use Rattle.wu_view.specs.Views.{view_of as files_of}
 use Rattle.wu_query.specs.Answer.{found_line}
 use Rattle.wu_query.specs.Finding.{extents_of, lines_at, lines_of_record, lines_recorded, text_held}
 use Rattle.wu_query.specs.Records.{Records, record_at}
-use Rattle.wu_query.specs.Reads.{texts_read, texts_shown}
+use Rattle.wu_query.specs.Hits.{hits_in}
+use Rattle.wu_query.specs.Reads.{ShowsNoText, text_of_file, texts_read, texts_shown}
 use Rattle.wu_query.specs.States.{State}
+use Rattle.wu_query.specs.View.{shown_of}
 
 none_of : (n : ℕ) → take {A = Found} n [] ≡ []
 none_of zero = refl
@@ -113,25 +116,19 @@ no_texts hits text (file ∷ files) =
     let still : 0 - hits file ≡ 0 = omega arith in
     ap₂ (λ (m n : ℕ). cond (nat_lt 0 m) (text file) [] ++ texts_shown hits text n files) none still ∙ no_texts hits text files
 
-pub none_counted : (s : State) (uid : ℕ) (region : Region) → texts_read s uid (Counting region) ≡ []
+-- a question that has no text shown reads none
+pub no_text_read : (question : Question) → ShowsNoText question → (s : State) (uid : ℕ) → texts_read s uid question ≡ []
 unfolding texts_read
-none_counted s uid region = refl
-
-pub none_ranked : (s : State) (uid k : ℕ) (unit : Region) (words : List (List ℕ)) → texts_read s uid (Ranking k unit words) ≡ []
-unfolding texts_read
-none_ranked s uid k unit words = refl
-
-pub none_weighed : (s : State) (uid k : ℕ) (unit : Region) (words : List (List ℕ)) → texts_read s uid (Weighing k unit words) ≡ []
-unfolding texts_read
-none_weighed s uid k unit words = refl
-
-pub none_listed : (s : State) (uid : ℕ) → texts_read s uid ListingPaths ≡ []
-unfolding texts_read
-none_listed s uid = refl
-
-pub none_of_terms : (s : State) (uid k : ℕ) (prefix : List ℕ) (top : Bool) → texts_read s uid (ListingTerms k prefix top) ≡ []
-unfolding texts_read
-none_of_terms s uid k prefix top = refl
+no_text_read (Counting region) none s uid = refl
+no_text_read (Finding k region) none s uid =
+    let hits : Seen → ℕ = λ file. length (hits_in region (shown_of s.texts file)) in
+    ap (λ (lines : ℕ). texts_shown hits (text_of_file s) lines (files_of s.tree uid)) none
+    ∙ no_texts hits (text_of_file s) (files_of s.tree uid)
+no_text_read (Ranking k unit words) none s uid = refl
+no_text_read ListingPaths none s uid = refl
+no_text_read (ListingTerms k prefix top) none s uid = refl
+no_text_read Exporting none s uid = absurd none
+no_text_read (Weighing k unit words) none s uid = refl
 
 -- where there are as many lines as are asked for, or no file is left
 abbrev pub IsEnough : ℕ → List Found → List Seen → Type 0

@@ -32,4 +32,5 @@ pub mod WrittenFiles
 pub mod UserTerms
 pub mod PermittedBlocks
 pub mod PermittedTexts
+pub mod FetchedAlone
 pub mod ExportedFiles

@@ -28,8 +28,8 @@ use Rattle.wu_frames.specs.declared.Frame.{Frame}
 use Rattle.wu_frames.specs.declared.Frames.{Frames}
 use Rattle.wu_query.specs.Asked.{blocks_read}
 use Rattle.wu_ask.specs.Questions.{Question, Ranking, Weighing}
-use Rattle.wu_query.specs.declared.ranking.Purpose.{Purpose}
-use Rattle.wu_query.specs.declared.ranking.Purpose.TheVariants as purposes
+use Rattle.wu_query.specs.declared.ranking.Wanted.{Wanted}
+use Rattle.wu_query.specs.declared.ranking.Wanted.TheVariants.{Best, Weighed}
 use Rattle.wu_query.specs.Rankings.{unit_at}
 use Rattle.wu_query.specs.States.{State}
 
@@ -56,8 +56,8 @@ abbrev pub IsAmong : List (List ℕ) → List ℕ → Type 0
 IsAmong terms word = list_any (pointwise nat_eq word) terms ≡ true
 
 -- those of the terms that are among the words
-abbrev pub wanted : List (List ℕ) → List (List ℕ) → List (List ℕ)
-wanted words terms = filter (λ term. list_any (pointwise nat_eq term) words) terms
+abbrev pub terms_among : List (List ℕ) → List (List ℕ) → List (List ℕ)
+terms_among words terms = filter (λ term. list_any (pointwise nat_eq term) words) terms
 
 -- the list of the word, with the addresses that the first list of its term has; none where there is no such list
 abbrev pub list_in : List TermList → List ℕ → TermList
@@ -96,10 +96,10 @@ pub record AreUnits (region : Region) (frames : Frames) (lists : List TermList) 
   pub are : units ≡ units_in region lists frames.by_address
   pub fit : CanBeRanked units
 
--- what is asked of the units that hold one of the words
-abbrev pub question_for : Purpose → Region → List (List ℕ) → Question
-question_for (purposes.Rank k) unit words = Ranking k unit words
-question_for (purposes.Weigh k) unit words = Weighing k unit words
+-- what is asked of a ranking of a unit's extents by words
+abbrev pub ranking_question : Wanted → Region → List (List ℕ) → Question
+ranking_question (Best k) unit words = Ranking k unit words
+ranking_question (Weighed k) unit words = Weighing k unit words
 
 -- all of the frame, as the unit that is the whole file; none where a frame has no room for the tags at its start and its end
 abbrev pub file_unit : Frame → List RankedUnit

@@ -3,6 +3,7 @@ ghost use Rattle.std.specs.Prelude.{◌≡◌, ℕ, [], ◌∷◌, IfOk, IfErr, 
 ghost use Rattle.wu_ask.specs.Questions.{Counting};
 ghost use Rattle.wu_gcl.specs.Regions.{Region, region_of};
 ghost use Rattle.wu_lists.specs.Keeping.{Asks};
+ghost use Rattle.wu_outside.specs.Reading.{OnlyReads};
 ghost use Rattle.wu_space.specs.Addresses.{Ranges};
 ghost use Rattle.wu_query.specs.Answer.{answer};
 ghost use Rattle.wu_query.specs.Asked.{IsTermAlone, blocks_for, terms_of as named_in};
@@ -21,7 +22,8 @@ use wu_outside::Store;
 use wu_parts::Parts;
 use wu_solve::{count_apart, only_term};
 
-/// How many extents the expression has over the user's view, and in how many of its files.
+/// How many extents the expression has over the user's view, and in how many of its files. They are made of the
+/// lists of its terms, where it isn't a term alone.
 pub fn count<D: Store>(
     alloc: Global,
     store: &mut D,
@@ -35,19 +37,23 @@ pub fn count<D: Store>(
     ensures blocks { OnOk result (Asks (blocks_for parts.old frames.now.ranges (named_in (region_of expr.now))) (D.holds store.old)
         parts.old.kept parts.new.kept (D.reads store.old) (D.reads store.new)) }
     ensures others { parts.new ≡ record parts.old { kept = parts.new.kept } }
-    ensures holds { D.holds store.new ≡ D.holds store.old }
-    ensures moments { D.moments store.new ≡ D.moments store.old }
-    ensures calm { OnOk result (D.faults store.new ≡ D.faults store.old) }
+    ensures store { OnlyReads D.Store store.old store.new result }
     ensures cause { IfErr result (IsCauseFor parts.old frames.now.ranges (named_in (region_of expr.now)) (D.holds store.old)
         (D.faults store.old) (D.faults store.new) (D.reads store.old) (D.reads store.new)) }
 {
-    match only_term(expr) {
-        Some(term) => count_term(store, frames, parts, term),
-        None => count_lists(alloc, store, frames, parts, expr),
+    if let Some(term) = only_term(expr) {
+        return count_term(store, frames, parts, term);
     }
+    let terms = terms_of(alloc, expr)?;
+    let lists = lists_of(alloc, store, &terms, frames, parts)?;
+    let counts = count_apart(alloc, expr, frames.ranges.as_slice(), &lists)?;
+    Ok(Answered::Count {
+        hits: counts.hits,
+        files: counts.files,
+    })
 }
 
-/// The same of an expression that is the term alone: each of the term's addresses is an extent.
+/// The same of an expression that is the term alone: each of the term's addresses is an extent, and no list is made.
 fn count_term<D: Store>(
     store: &mut D,
     frames: &Frames,
@@ -61,9 +67,7 @@ fn count_term<D: Store>(
     ensures blocks { OnOk result (Asks (blocks_for parts.old frames.now.ranges (term.now ∷ [])) (D.holds store.old)
         parts.old.kept parts.new.kept (D.reads store.old) (D.reads store.new)) }
     ensures others { parts.new ≡ record parts.old { kept = parts.new.kept } }
-    ensures holds { D.holds store.new ≡ D.holds store.old }
-    ensures moments { D.moments store.new ≡ D.moments store.old }
-    ensures calm { OnOk result (D.faults store.new ≡ D.faults store.old) }
+    ensures store { OnlyReads D.Store store.old store.new result }
     ensures cause { IfErr result (IsCauseFor parts.old frames.now.ranges (term.now ∷ []) (D.holds store.old)
         (D.faults store.old) (D.faults store.new) (D.reads store.old) (D.reads store.new)) }
 {
@@ -71,35 +75,5 @@ fn count_term<D: Store>(
     Ok(Answered::Count {
         hits: tally.hits,
         files: tally.frames,
-    })
-}
-
-/// The same, by the extents that are made of the lists of the expression's terms.
-fn count_lists<D: Store>(
-    alloc: Global,
-    store: &mut D,
-    frames: &Frames,
-    parts: &mut Parts,
-    expr: &Expr,
-) -> Result<Answered, Trouble>
-    requires { CanBeSearched frames.now }
-    ensures answer { IfOk result (λ answered. (live : Ranges) (s : State) (uid : ℕ) → Indexes frames.now live s uid
-        → TellsPostings parts.old (D.holds store.old) s → answered ≡ answer (view_of s uid) (Counting (region_of expr.now))) }
-    ensures blocks { OnOk result (Asks (blocks_for parts.old frames.now.ranges (named_in (region_of expr.now))) (D.holds store.old)
-        parts.old.kept parts.new.kept (D.reads store.old) (D.reads store.new)) }
-    ensures others { parts.new ≡ record parts.old { kept = parts.new.kept } }
-    ensures holds { D.holds store.new ≡ D.holds store.old }
-    ensures moments { D.moments store.new ≡ D.moments store.old }
-    ensures calm { OnOk result (D.faults store.new ≡ D.faults store.old) }
-    ensures cause { IfErr result (IsCauseFor parts.old frames.now.ranges (named_in (region_of expr.now)) (D.holds store.old)
-        (D.faults store.old) (D.faults store.new) (D.reads store.old) (D.reads store.new)) }
-{
-    let _untouched = &*store;
-    let terms = terms_of(alloc, expr)?;
-    let lists = lists_of(alloc, store, &terms, frames, parts)?;
-    let counts = count_apart(alloc, expr, frames.ranges.as_slice(), &lists)?;
-    Ok(Answered::Count {
-        hits: counts.hits,
-        files: counts.files,
     })
 }

@@ -3,6 +3,7 @@ ghost use Rattle.std.specs.Prelude.{◌≡◌, ◌++◌, ℕ, map, option_map, I
 ghost use Rattle.std.specs.List.{AllByRecursion, flat_map};
 ghost use Rattle.std.specs.Option.{IsSomeAnd};
 ghost use Rattle.wu_ask.specs.Questions.{Exporting as AskedExporting};
+ghost use Rattle.wu_outside.specs.Reading.{OnlyReads};
 ghost use Rattle.wu_space.specs.Addresses.{Ranges};
 ghost use Rattle.wu_export.specs.Exporting.{with_files};
 ghost use Rattle.wu_query.specs.Answer.{answer};
@@ -49,9 +50,7 @@ pub fn export<D: Store>(
     ensures permitted { (live : Ranges) (s : State) (uid : ℕ) → Indexes frames.now live s uid
         → KeepsTexts files.now.entries (D.holds store.old) s
         → ReadsSuch (AreReadForQuery s uid AskedExporting) (D.reads store.old) (D.reads store.new) }
-    ensures holds { D.holds store.new ≡ D.holds store.old }
-    ensures moments { D.moments store.new ≡ D.moments store.old }
-    ensures calm { OnOk result (D.faults store.new ≡ D.faults store.old) }
+    ensures store { OnlyReads D.Store store.old store.new result }
     ensures cause { IfErr result (IsCause
         (IsDamagedOf frames.now.seen files.now.entries (D.holds store.old))
         (D.faults store.old) (D.faults store.new) (D.reads store.old) (D.reads store.new)) }
@@ -90,13 +89,11 @@ fn with_texts<'a, D: Store>(
         exporter_with ≡ with_files exporter.entry (map (shown_at content files.now.entries) view.now))) }
     ensures sound { OnOk result (AllByRecursion (IsTextOf (D.holds store.old) files.now.entries)
         (flat_map (text_at files.now.entries) view.now)) }
-    ensures holds { D.holds store.new ≡ D.holds store.old }
-    ensures moments { D.moments store.new ≡ D.moments store.old }
+    ensures store { OnlyReads D.Store store.old store.new result }
     ensures reads { OnOk result (D.reads store.new ≡ option_map (λ ranges.
         ranges ++ flat_map (text_at files.now.entries) view.now) (D.reads store.old)) }
     ensures only { ReadsSuch (AreFirstOf (flat_map (text_at files.now.entries) view.now))
         (D.reads store.old) (D.reads store.new) }
-    ensures calm { OnOk result (D.faults store.new ≡ D.faults store.old) }
     ensures cause { IfErr result (IsCause
         (IsDamagedOf view.now files.now.entries (D.holds store.old))
         (D.faults store.old) (D.faults store.new) (D.reads store.old) (D.reads store.new)) }
@@ -122,14 +119,12 @@ fn text_of<D: Store>(
         text.items ≡ held_of content (record_at files.now.entries ino))) }
     ensures sound { OnOk result (AllByRecursion (IsTextOf (D.holds store.old) files.now.entries)
         (text_recorded (record_at files.now.entries ino))) }
-    ensures holds { D.holds store.new ≡ D.holds store.old }
-    ensures moments { D.moments store.new ≡ D.moments store.old }
+    ensures store { OnlyReads D.Store store.old store.new result }
     ensures reads { OnOk result (D.reads store.new
         ≡ option_map (λ ranges.
         ranges ++ text_recorded (record_at files.now.entries ino)) (D.reads store.old)) }
     ensures only { ReadsSuch (AreFirstOf (text_recorded (record_at files.now.entries ino)))
         (D.reads store.old) (D.reads store.new) }
-    ensures calm { OnOk result (D.faults store.new ≡ D.faults store.old) }
     ensures cause { IfErr result (IsCause (λ blob. IsSomeAnd (record_at files.now.entries ino)
         (λ file. IsBrokenIn (D.holds store.old) file blob))
         (D.faults store.old) (D.faults store.new) (D.reads store.old) (D.reads store.new)) }

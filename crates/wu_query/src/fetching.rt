@@ -4,10 +4,11 @@ ghost use Rattle.std.specs.Cmp.Lexicographic.{pointwise};
 ghost use Rattle.std.specs.List.{list_any};
 ghost use Rattle.std.specs.List.Sorted.{IsStrictlyIncreasing};
 ghost use Rattle.wu_lists.specs.Keeping.{Asks};
+ghost use Rattle.wu_outside.specs.Reading.{OnlyReads};
 ghost use Rattle.wu_query.specs.Asked.{blocks_for};
 ghost use Rattle.wu_query.specs.States.{State};
 ghost use Rattle.wu_query.specs.Searched.{TellsPostings};
-ghost use Rattle.wu_query.specs.Units.{CanBeSearched, IsCauseFor, found_in, list_at, wanted};
+ghost use Rattle.wu_query.specs.Units.{CanBeSearched, IsCauseFor, found_in, list_at, terms_among};
 
 use std::alloc::Global;
 use wu_base::{Bytes, TermList, Trouble};
@@ -32,13 +33,10 @@ pub fn lists_of<D: Store>(
     ensures blocks { OnOk result (Asks (blocks_for parts.old frames.now.ranges terms.now) (D.holds store.old)
         parts.old.kept parts.new.kept (D.reads store.old) (D.reads store.new)) }
     ensures others { parts.new ≡ record parts.old { kept = parts.new.kept } }
-    ensures holds { D.holds store.new ≡ D.holds store.old }
-    ensures moments { D.moments store.new ≡ D.moments store.old }
-    ensures calm { OnOk result (D.faults store.new ≡ D.faults store.old) }
+    ensures store { OnlyReads D.Store store.old store.new result }
     ensures cause { IfErr result (IsCauseFor parts.old frames.now.ranges terms.now (D.holds store.old)
         (D.faults store.old) (D.faults store.new) (D.reads store.old) (D.reads store.new)) }
 {
-    let _untouched = &*store;
     let mut lists = Vec::with_capacity(alloc, terms.len())?;
     for term in terms {
         lists.push(list_of(store, term, frames, parts)?)?;
@@ -58,18 +56,15 @@ pub fn lists_of_words<D: Store>(
 ) -> Result<Vec<TermList>, Trouble>
     requires { CanBeSearched frames.now }
     ensures lists { IfOk result (λ lists. (s : State) → TellsPostings parts.old (D.holds store.old) s
-        → lists.items ≡ map (list_at (found_in frames.now.ranges s)) (wanted words.now terms.now)) }
+        → lists.items ≡ map (list_at (found_in frames.now.ranges s)) (terms_among words.now terms.now)) }
     ensures ascending { IfOk result (λ lists. All (λ list. IsStrictlyIncreasing list.at) lists.items) }
     ensures blocks { OnOk result (Asks (blocks_for parts.old frames.now.ranges terms.now) (D.holds store.old)
         parts.old.kept parts.new.kept (D.reads store.old) (D.reads store.new)) }
     ensures others { parts.new ≡ record parts.old { kept = parts.new.kept } }
-    ensures holds { D.holds store.new ≡ D.holds store.old }
-    ensures moments { D.moments store.new ≡ D.moments store.old }
-    ensures calm { OnOk result (D.faults store.new ≡ D.faults store.old) }
+    ensures store { OnlyReads D.Store store.old store.new result }
     ensures cause { IfErr result (IsCauseFor parts.old frames.now.ranges terms.now (D.holds store.old)
         (D.faults store.old) (D.faults store.new) (D.reads store.old) (D.reads store.new)) }
 {
-    let _untouched = &*store;
     let mut lists = Vec::new(alloc);
     for term in terms {
         put_list(store, &mut lists, term, words, frames, parts)?;
@@ -88,19 +83,16 @@ fn put_list<D: Store>(
 ) -> Result<(), Trouble>
     requires { CanBeSearched frames.now }
     ensures lists { OnOk result ((s : State) → TellsPostings parts.old (D.holds store.old) s → lists.new.items
-        ≡ lists.old.items ++ map (list_at (found_in frames.now.ranges s)) (wanted words.now (term.now ∷ []))) }
+        ≡ lists.old.items ++ map (list_at (found_in frames.now.ranges s)) (terms_among words.now (term.now ∷ []))) }
     ensures ascending { OnOk result (All (λ list. IsStrictlyIncreasing list.at) lists.old.items
         → All (λ list. IsStrictlyIncreasing list.at) lists.new.items) }
     ensures blocks { OnOk result (Asks (blocks_for parts.old frames.now.ranges (term.now ∷ [])) (D.holds store.old)
         parts.old.kept parts.new.kept (D.reads store.old) (D.reads store.new)) }
     ensures others { parts.new ≡ record parts.old { kept = parts.new.kept } }
-    ensures holds { D.holds store.new ≡ D.holds store.old }
-    ensures moments { D.moments store.new ≡ D.moments store.old }
-    ensures calm { OnOk result (D.faults store.new ≡ D.faults store.old) }
+    ensures store { OnlyReads D.Store store.old store.new result }
     ensures cause { IfErr result (IsCauseFor parts.old frames.now.ranges (term.now ∷ []) (D.holds store.old)
         (D.faults store.old) (D.faults store.new) (D.reads store.old) (D.reads store.new)) }
 {
-    let _untouched = &*store;
     if !is_among(words, term) {
         return Ok(parts.touch(store, term.as_slice(), frames.ranges.as_slice())?);
     }
@@ -129,9 +121,7 @@ fn list_of<D: Store>(
     ensures blocks { OnOk result (Asks (blocks_for parts.old frames.now.ranges (term.now ∷ [])) (D.holds store.old)
         parts.old.kept parts.new.kept (D.reads store.old) (D.reads store.new)) }
     ensures others { parts.new ≡ record parts.old { kept = parts.new.kept } }
-    ensures holds { D.holds store.new ≡ D.holds store.old }
-    ensures moments { D.moments store.new ≡ D.moments store.old }
-    ensures calm { OnOk result (D.faults store.new ≡ D.faults store.old) }
+    ensures store { OnlyReads D.Store store.old store.new result }
     ensures cause { IfErr result (IsCauseFor parts.old frames.now.ranges (term.now ∷ []) (D.holds store.old)
         (D.faults store.old) (D.faults store.new) (D.reads store.old) (D.reads store.new)) }
 {

@@ -4,6 +4,7 @@ ghost use Rattle.std.specs.List.{AllByRecursion, flat_map};
 ghost use Rattle.wu_ask.specs.Questions.{Finding as AskedFinding};
 ghost use Rattle.wu_base.specs.declared.limits.TheConstants.{TEXT_MAX};
 ghost use Rattle.wu_gcl.specs.Regions.{region_of};
+ghost use Rattle.wu_outside.specs.Reading.{OnlyReads};
 ghost use Rattle.wu_snip.specs.Snippets.{IsAscending, IsWithin, snippet_of};
 ghost use Rattle.wu_solve.specs.Addresses.{AreLists};
 ghost use Rattle.wu_space.specs.Addresses.{Ranges};
@@ -61,13 +62,10 @@ pub fn find<D: Store>(
         → TellsPostings parts.old (D.holds store.old) s → KeepsTexts files.now.entries (D.holds store.old) s
         → ReadsSuch (AreReadForQuery s uid (AskedFinding k (region_of expr.now))) (D.reads store.old) (D.reads store.new) }
     ensures others { parts.new ≡ record parts.old { kept = parts.new.kept } }
-    ensures holds { D.holds store.new ≡ D.holds store.old }
-    ensures moments { D.moments store.new ≡ D.moments store.old }
-    ensures calm { OnOk result (D.faults store.new ≡ D.faults store.old) }
+    ensures store { OnlyReads D.Store store.old store.new result }
     ensures cause { IfErr result (IsCause (IsDamagedOver frames.now (AskedFinding k (region_of expr.now)) parts.old files.now.entries
         (D.holds store.old)) (D.faults store.old) (D.faults store.new) (D.reads store.old) (D.reads store.new)) }
 {
-    let _untouched = &*store;
     let terms = terms_of(alloc, expr)?;
     let lists = lists_of(alloc, store, &terms, frames, parts)?;
     let counts = count_apart(alloc, expr, frames.ranges.as_slice(), &lists)?;
@@ -109,20 +107,17 @@ fn lines_shown<D: Store>(
     ensures sound { OnOk result (AllByRecursion (IsTextOf (D.holds store.old) files.now.entries)
         (texts_shown (hits_at files.now.entries (region_of expr.now) lists.now)
         (text_at files.now.entries) k (looked_through few (region_of expr.now) lists.now frames.now))) }
-    ensures holds { D.holds store.new ≡ D.holds store.old }
-    ensures moments { D.moments store.new ≡ D.moments store.old }
+    ensures store { OnlyReads D.Store store.old store.new result }
     ensures reads { OnOk result (D.reads store.new ≡ option_map (λ ranges. ranges
         ++ texts_shown (hits_at files.now.entries (region_of expr.now) lists.now)
         (text_at files.now.entries) k (looked_through few (region_of expr.now) lists.now frames.now)) (D.reads store.old)) }
     ensures only { ReadsSuch (AreFirstOf (texts_shown (hits_at files.now.entries (region_of expr.now) lists.now)
         (text_at files.now.entries) k (looked_through few (region_of expr.now) lists.now frames.now)))
         (D.reads store.old) (D.reads store.new) }
-    ensures calm { OnOk result (D.faults store.new ≡ D.faults store.old) }
     ensures cause { IfErr result (IsCause (IsBrokenShown files.now.entries (D.holds store.old) (region_of expr.now) lists.now
         k (looked_through few (region_of expr.now) lists.now frames.now))
         (D.faults store.old) (D.faults store.new) (D.reads store.old) (D.reads store.new)) }
 {
-    let _untouched = &*store;
     if !few {
         return first_lines(alloc, store, frames.seen.as_slice(), files, expr, lists, k);
     }
@@ -148,15 +143,13 @@ fn first_lines<D: Store>(
         lines.items ≡ take k (flat_map (lines_at content files.now.entries (region_of expr.now) lists.now) view.now))) }
     ensures sound { OnOk result (AllByRecursion (IsTextOf (D.holds store.old) files.now.entries)
         (texts_shown (hits_at files.now.entries (region_of expr.now) lists.now) (text_at files.now.entries) k view.now)) }
-    ensures holds { D.holds store.new ≡ D.holds store.old }
-    ensures moments { D.moments store.new ≡ D.moments store.old }
+    ensures store { OnlyReads D.Store store.old store.new result }
     ensures reads { OnOk result (D.reads store.new ≡ option_map (λ ranges. ranges
         ++ texts_shown (hits_at files.now.entries (region_of expr.now) lists.now)
         (text_at files.now.entries) k view.now) (D.reads store.old)) }
     ensures only { ReadsSuch (AreFirstOf (texts_shown (hits_at files.now.entries (region_of expr.now) lists.now)
         (text_at files.now.entries) k view.now)) (D.reads store.old) (D.reads store.new) }
     ensures none { k ≡ 0 → store.new ≡ store.old }
-    ensures calm { OnOk result (D.faults store.new ≡ D.faults store.old) }
     ensures cause { IfErr result (IsCause (IsBrokenShown files.now.entries (D.holds store.old) (region_of expr.now) lists.now
         k view.now) (D.faults store.old) (D.faults store.new) (D.reads store.old) (D.reads store.new)) }
 {
@@ -191,15 +184,13 @@ fn put_file<D: Store>(
     ensures sound { OnOk result (AllByRecursion (IsTextOf (D.holds store.old) files.now.entries)
         (if nat_lt 0 (min left (hits_at files.now.entries (region_of expr.now) lists.now seen.now))
         then text_at files.now.entries seen.now else [])) }
-    ensures holds { D.holds store.new ≡ D.holds store.old }
-    ensures moments { D.moments store.new ≡ D.moments store.old }
+    ensures store { OnlyReads D.Store store.old store.new result }
     ensures reads { OnOk result (D.reads store.new ≡ option_map (λ ranges. ranges
         ++ (if nat_lt 0 (min left (hits_at files.now.entries (region_of expr.now) lists.now seen.now))
         then text_at files.now.entries seen.now else []))
         (D.reads store.old)) }
     ensures only { ReadsSuch (AreFirstOf (if nat_lt 0 (min left (hits_at files.now.entries (region_of expr.now) lists.now seen.now))
         then text_at files.now.entries seen.now else [])) (D.reads store.old) (D.reads store.new) }
-    ensures calm { OnOk result (D.faults store.new ≡ D.faults store.old) }
     ensures cause { IfErr result (IsCause (IsBrokenShown files.now.entries (D.holds store.old) (region_of expr.now) lists.now
         left (seen.now ∷ []))
         (D.faults store.old) (D.faults store.new) (D.reads store.old) (D.reads store.new)) }
@@ -263,13 +254,11 @@ fn put_lines<D: Store>(
     ensures unasked { length extents.now ≡ 0 → store.new ≡ store.old }
     ensures count { OnOk result (length shown.new.items ≡ length shown.old.items + length extents.now) }
     ensures sound { OnOk result (0 < length extents.now → 0 < file.now.blob → HasWholeText (D.holds store.old) file.now) }
-    ensures holds { D.holds store.new ≡ D.holds store.old }
-    ensures moments { D.moments store.new ≡ D.moments store.old }
+    ensures store { OnlyReads D.Store store.old store.new result }
     ensures reads { OnOk result (D.reads store.new ≡ option_map (λ ranges. ranges
         ++ (if nat_lt 0 (length extents.now) then whole_text file.now.blob file.now.len else [])) (D.reads store.old)) }
     ensures only { ReadsSuch (AreFirstOf (if nat_lt 0 (length extents.now) then whole_text file.now.blob file.now.len else []))
         (D.reads store.old) (D.reads store.new) }
-    ensures calm { OnOk result (D.faults store.new ≡ D.faults store.old) }
     ensures cause { IfErr result (IsCause (λ blob. (0 < length extents.now) × IsBrokenIn (D.holds store.old) file.now blob)
         (D.faults store.old) (D.faults store.new) (D.reads store.old) (D.reads store.new)) }
 {

@@ -3,6 +3,7 @@ ghost use Rattle.std.specs.Prelude.{◌≡◌, ℕ, IfOk, IfErr, OnOk};
 ghost use Rattle.std.specs.List.{AllByRecursion};
 ghost use Rattle.wu_ask.specs.Questions.{question_of, IsSoundAsk};
 ghost use Rattle.wu_frames.specs.UserFrames.{HasAsked};
+ghost use Rattle.wu_outside.specs.Reading.{OnlyReads};
 ghost use Rattle.wu_parts.specs.Candidates.{terms_held};
 ghost use Rattle.wu_query.specs.Answer.{answer};
 ghost use Rattle.wu_query.specs.Asked.{blocks_for, terms_asked};
@@ -20,7 +21,7 @@ use crate::counting::count;
 use crate::exporting::export;
 use crate::finding::find;
 use crate::listing::paths;
-use crate::ranking::{ranked, weighed};
+use crate::ranking::{Wanted, ranked};
 use crate::terms::user_terms;
 use std::alloc::Global;
 use std::collections::BTreeMap;
@@ -61,14 +62,11 @@ pub fn answered<D: Store>(
         → ReadsSuch (AreReadForQuery s query.now.uid (question_of query.now.ask)) (D.reads store.old) (D.reads store.new) }
     ensures others { parts.new ≡ record parts.old { kept = parts.new.kept } }
     ensures frames { OnOk result (HasAsked query.now.uid kept.old kept.new) }
-    ensures holds { D.holds store.new ≡ D.holds store.old }
-    ensures moments { D.moments store.new ≡ D.moments store.old }
-    ensures calm { OnOk result (D.faults store.new ≡ D.faults store.old) }
+    ensures store { OnlyReads D.Store store.old store.new result }
     ensures cause { IfErr result (IsCause (IsDamagedFor tree.now space.now.ranges query.now.uid (question_of query.now.ask)
         parts.old files.now.entries (D.holds store.old))
         (D.faults store.old) (D.faults store.new) (D.reads store.old) (D.reads store.new)) }
 {
-    let _untouched = &*store;
     space.keeps_the_rules();
     kept.prepare(tree, space, query.uid)?;
     match kept.kept(query.uid) {
@@ -101,28 +99,23 @@ fn answer<D: Store>(
         → TellsPostings parts.old (D.holds store.old) s → KeepsTexts files.now.entries (D.holds store.old) s
         → ReadsSuch (AreReadForQuery s uid (question_of ask.now)) (D.reads store.old) (D.reads store.new) }
     ensures others { parts.new ≡ record parts.old { kept = parts.new.kept } }
-    ensures holds { D.holds store.new ≡ D.holds store.old }
-    ensures moments { D.moments store.new ≡ D.moments store.old }
-    ensures calm { OnOk result (D.faults store.new ≡ D.faults store.old) }
+    ensures store { OnlyReads D.Store store.old store.new result }
     ensures cause { IfErr result (IsCause (IsDamagedOver frames.now (question_of ask.now) parts.old files.now.entries (D.holds store.old))
         (D.faults store.old) (D.faults store.new) (D.reads store.old) (D.reads store.new)) }
 {
-    let _untouched = &*store;
     match ask {
         Ask::Count { expr } => count(alloc, store, frames, parts, expr),
         Ask::Find { k, expr } => find(alloc, store, frames, parts, files, *k, expr),
-        Ask::Rank { k, unit, words } => {
-            ranked(
-                alloc,
-                store,
-                frames,
-                space,
-                parts,
-                *k,
-                unit,
-                words.as_slice(),
-            )
-        }
+        Ask::Rank { k, unit, words } => ranked(
+            alloc,
+            store,
+            frames,
+            space,
+            parts,
+            Wanted::Best { k: *k },
+            unit,
+            words.as_slice(),
+        ),
         Ask::Paths => Ok(paths(alloc, frames.seen.as_slice())?),
         Ask::Terms { k, prefix, top } => user_terms(
             alloc,
@@ -134,17 +127,15 @@ fn answer<D: Store>(
             *top,
         ),
         Ask::Export => export(alloc, store, frames, files),
-        Ask::Weighed { k, unit, words } => {
-            weighed(
-                alloc,
-                store,
-                frames,
-                space,
-                parts,
-                *k,
-                unit,
-                words.as_slice(),
-            )
-        }
+        Ask::Weighed { k, unit, words } => ranked(
+            alloc,
+            store,
+            frames,
+            space,
+            parts,
+            Wanted::Weighed { k: *k },
+            unit,
+            words.as_slice(),
+        ),
     }
 }

@@ -8,6 +8,7 @@ ghost use Rattle.wu_base.specs.declared.limits.TheConstants.{RANK_WORDS_MAX};
 ghost use Rattle.wu_gcl.specs.Regions.{Region, WholeFile, region_of};
 ghost use Rattle.wu_gcl.specs.Terms.{AreTerms};
 ghost use Rattle.wu_lists.specs.Keeping.{Asks};
+ghost use Rattle.wu_outside.specs.Reading.{OnlyReads};
 ghost use Rattle.wu_rank.specs.Scores.{count_at, length_of, total_length};
 ghost use Rattle.wu_rank.specs.Order.{listed};
 ghost use Rattle.wu_rank.specs.Pruning.{reaching};
@@ -18,7 +19,7 @@ ghost use Rattle.wu_query.specs.Asked.{blocks_for, terms_of as named_in, with_wo
 ghost use Rattle.wu_query.specs.States.{State};
 ghost use Rattle.wu_query.specs.Searched.{Indexes, TellsPostings};
 ghost use Rattle.wu_query.specs.Units.{AreUnitsIn, CanBeRanked, CanBeSearched, IsAmong, IsCauseFor};
-ghost use Rattle.wu_query.specs.Units.{found_in, list_at, list_in, question_for};
+ghost use Rattle.wu_query.specs.Units.{found_in, list_at, list_in, ranking_question};
 ghost use Rattle.wu_query.specs.View.{view_of};
 
 use crate::fetching::{is_among, lists_of, lists_of_words};
@@ -34,25 +35,26 @@ use wu_parts::Parts;
 use wu_rank::{Pruned, Ranker, Ranking, Unit, bm25_weigh, rank, rank_pruned, summed_length};
 use wu_space::Space;
 
-/// What the units that hold a word are wanted for.
+/// What is asked of a ranking.
 #[derive(Clone, Copy)]
-enum Purpose {
-    /// To show the first `k` of their ranking.
-    Rank { k: u32 },
-    /// To count those that could be among the first `k`.
-    Weigh { k: u32 },
+pub enum Wanted {
+    /// Its first `k` units.
+    Best { k: u32 },
+    /// How many of its units could be among the first `k`.
+    Weighed { k: u32 },
 }
 
-/// How many units hold one of the words, by BM25 over the view alone, and the first `k` of them: by score,
-/// falling, then by file, then by start. The units are the extents of `unit`; a word that is given more than
-/// once counts as often. Each term is asked for once.
+/// How many units hold one of the words, and what is wanted of their ranking: by BM25 over the view alone, by
+/// score, falling, then by file, then by start. Which of them could be among the first is told by the words that
+/// they hold, and not by how often. The units are the extents of `unit`; a word that is given more than once
+/// counts as often. Each term is asked for once.
 pub fn ranked<D: Store>(
     alloc: Global,
     store: &mut D,
     frames: &Frames,
     space: &Space,
     parts: &mut Parts,
-    k: u32,
+    wanted: Wanted,
     unit: &Expr,
     words: &[Bytes],
 ) -> Result<Answered, Trouble>
@@ -60,95 +62,15 @@ pub fn ranked<D: Store>(
     requires few { length words.now ≤ RANK_WORDS_MAX }
     ensures answer { IfOk result (λ answered. (s : State) (uid : ℕ) → Indexes frames.now space.now.ranges s uid
         → TellsPostings parts.old (D.holds store.old) s
-        → answered ≡ answer (view_of s uid) (AskedRanking k (region_of unit.now) words.now)) }
+        → answered ≡ answer (view_of s uid) (ranking_question wanted (region_of unit.now) words.now)) }
     ensures blocks { OnOk result (Asks
         (blocks_for parts.old frames.now.ranges (with_words (named_in (region_of unit.now)) words.now)) (D.holds store.old)
         parts.old.kept parts.new.kept (D.reads store.old) (D.reads store.new)) }
     ensures others { parts.new ≡ record parts.old { kept = parts.new.kept } }
-    ensures holds { D.holds store.new ≡ D.holds store.old }
-    ensures moments { D.moments store.new ≡ D.moments store.old }
-    ensures calm { OnOk result (D.faults store.new ≡ D.faults store.old) }
+    ensures store { OnlyReads D.Store store.old store.new result }
     ensures cause { IfErr result (IsCauseFor parts.old frames.now.ranges (with_words (named_in (region_of unit.now)) words.now)
         (D.holds store.old) (D.faults store.old) (D.faults store.new) (D.reads store.old) (D.reads store.new)) }
 {
-    answer_for(
-        alloc,
-        store,
-        frames,
-        space,
-        parts,
-        Purpose::Rank { k },
-        unit,
-        words,
-    )
-}
-
-/// How many units hold one of the words, and how many of these could be among the first `k`, by the words
-/// that they hold and not by how often. The units and the words are as for `ranked`.
-pub fn weighed<D: Store>(
-    alloc: Global,
-    store: &mut D,
-    frames: &Frames,
-    space: &Space,
-    parts: &mut Parts,
-    k: u32,
-    unit: &Expr,
-    words: &[Bytes],
-) -> Result<Answered, Trouble>
-    requires fit { CanBeSearched frames.now }
-    requires few { length words.now ≤ RANK_WORDS_MAX }
-    ensures answer { IfOk result (λ answered. (s : State) (uid : ℕ) → Indexes frames.now space.now.ranges s uid
-        → TellsPostings parts.old (D.holds store.old) s
-        → answered ≡ answer (view_of s uid) (Weighing k (region_of unit.now) words.now)) }
-    ensures blocks { OnOk result (Asks
-        (blocks_for parts.old frames.now.ranges (with_words (named_in (region_of unit.now)) words.now)) (D.holds store.old)
-        parts.old.kept parts.new.kept (D.reads store.old) (D.reads store.new)) }
-    ensures others { parts.new ≡ record parts.old { kept = parts.new.kept } }
-    ensures holds { D.holds store.new ≡ D.holds store.old }
-    ensures moments { D.moments store.new ≡ D.moments store.old }
-    ensures calm { OnOk result (D.faults store.new ≡ D.faults store.old) }
-    ensures cause { IfErr result (IsCauseFor parts.old frames.now.ranges (with_words (named_in (region_of unit.now)) words.now)
-        (D.holds store.old) (D.faults store.old) (D.faults store.new) (D.reads store.old) (D.reads store.new)) }
-{
-    answer_for(
-        alloc,
-        store,
-        frames,
-        space,
-        parts,
-        Purpose::Weigh { k },
-        unit,
-        words,
-    )
-}
-
-/// What is told of the units that hold one of the words.
-fn answer_for<D: Store>(
-    alloc: Global,
-    store: &mut D,
-    frames: &Frames,
-    space: &Space,
-    parts: &mut Parts,
-    purpose: Purpose,
-    unit: &Expr,
-    words: &[Bytes],
-) -> Result<Answered, Trouble>
-    requires fit { CanBeSearched frames.now }
-    requires few { length words.now ≤ RANK_WORDS_MAX }
-    ensures answer { IfOk result (λ answered. (s : State) (uid : ℕ) → Indexes frames.now space.now.ranges s uid
-        → TellsPostings parts.old (D.holds store.old) s
-        → answered ≡ answer (view_of s uid) (question_for purpose (region_of unit.now) words.now)) }
-    ensures blocks { OnOk result (Asks
-        (blocks_for parts.old frames.now.ranges (with_words (named_in (region_of unit.now)) words.now)) (D.holds store.old)
-        parts.old.kept parts.new.kept (D.reads store.old) (D.reads store.new)) }
-    ensures others { parts.new ≡ record parts.old { kept = parts.new.kept } }
-    ensures holds { D.holds store.new ≡ D.holds store.old }
-    ensures moments { D.moments store.new ≡ D.moments store.old }
-    ensures calm { OnOk result (D.faults store.new ≡ D.faults store.old) }
-    ensures cause { IfErr result (IsCauseFor parts.old frames.now.ranges (with_words (named_in (region_of unit.now)) words.now)
-        (D.holds store.old) (D.faults store.old) (D.faults store.new) (D.reads store.old) (D.reads store.new)) }
-{
-    let _untouched = &*store;
     let terms = terms_of(alloc, unit)?;
     let count = terms.len();
     let asked = with_words(terms, words)?;
@@ -156,11 +78,11 @@ fn answer_for<D: Store>(
         Expr::File => {
             // Of terms that are no words only the reads are owed.
             let lists = lists_of_words(alloc, store, &asked, words, frames, parts)?;
-            Ok(rank_file_lists(alloc, frames, space, purpose, words, &lists)?)
+            Ok(rank_file_lists(alloc, frames, space, wanted, words, &lists)?)
         }
         _ => {
             let lists = lists_of(alloc, store, &asked, frames, parts)?;
-            Ok(rank_lists(alloc, frames, space, purpose, unit, words, &lists, count)?)
+            Ok(rank_lists(alloc, frames, space, wanted, unit, words, &lists, count)?)
         }
     }
 }
@@ -170,7 +92,7 @@ fn rank_file_lists(
     alloc: Global,
     frames: &Frames,
     space: &Space,
-    purpose: Purpose,
+    wanted: Wanted,
     words: &[Bytes],
     lists: &[TermList],
 ) -> Result<Answered, NoMemory>
@@ -180,10 +102,10 @@ fn rank_file_lists(
     ensures { IfOk result (λ answered. (s : State) (uid : ℕ) → Indexes frames.now space.now.ranges s uid
         → (terms : List (List ℕ)) → lists.now ≡ map (list_at (found_in frames.now.ranges s)) terms
         → AllByRecursion (IsAmong terms) words.now
-        → answered ≡ answer (view_of s uid) (question_for purpose WholeFile words.now)) }
+        → answered ≡ answer (view_of s uid) (ranking_question wanted WholeFile words.now)) }
 {
     let units = units_of_files(alloc, frames.by_address.as_slice())?;
-    rank_units(alloc, frames, space, purpose, &units, words, lists, lists)
+    rank_units(alloc, frames, space, wanted, &units, words, lists, lists)
 }
 
 /// The same of other extents, by the lists of the unit's terms, which are the first `count` ones, and of the words.
@@ -191,7 +113,7 @@ fn rank_lists(
     alloc: Global,
     frames: &Frames,
     space: &Space,
-    purpose: Purpose,
+    wanted: Wanted,
     unit: &Expr,
     words: &[Bytes],
     lists: &[TermList],
@@ -205,11 +127,11 @@ fn rank_lists(
     ensures { IfOk result (λ answered. (s : State) (uid : ℕ) → Indexes frames.now space.now.ranges s uid
         → (terms : List (List ℕ)) → lists.now ≡ map (list_at (found_in frames.now.ranges s)) terms
         → AllByRecursion (IsAmong terms) words.now
-        → answered ≡ answer (view_of s uid) (question_for purpose (region_of unit.now) words.now)) }
+        → answered ≡ answer (view_of s uid) (ranking_question wanted (region_of unit.now) words.now)) }
 {
     let (of_unit, own) = lists.split_at(count);
     let units = units_of(alloc, frames, unit, of_unit)?;
-    rank_units(alloc, frames, space, purpose, &units, words, lists, own)
+    rank_units(alloc, frames, space, wanted, &units, words, lists, own)
 }
 
 /// Tells of the units, where each word has one of the lists. The lists that weren't fetched for the units are
@@ -218,7 +140,7 @@ fn rank_units(
     alloc: Global,
     frames: &Frames,
     space: &Space,
-    purpose: Purpose,
+    wanted: Wanted,
     units: &[Unit],
     words: &[Bytes],
     lists: &[TermList],
@@ -233,13 +155,13 @@ fn rank_units(
         → (terms own_terms : List (List ℕ)) → lists.now ≡ map (list_at (found_in frames.now.ranges s)) terms
         → own.now ≡ map (list_at (found_in frames.now.ranges s)) own_terms
         → AllByRecursion (IsAmong terms) words.now
-        → answered ≡ answer (view_of s uid) (question_for purpose region words.now)) }
+        → answered ≡ answer (view_of s uid) (ranking_question wanted region words.now)) }
 {
     if are_of(own, words) {
-        return tell_units(alloc, frames, space, purpose, units, own);
+        return tell_units(alloc, frames, space, wanted, units, own);
     }
     let of_words = lists_for(alloc, words, lists)?;
-    tell_units(alloc, frames, space, purpose, units, &of_words)
+    tell_units(alloc, frames, space, wanted, units, &of_words)
 }
 
 /// Whether the lists are those of the words, in turn.
@@ -262,7 +184,7 @@ fn tell_units(
     alloc: Global,
     frames: &Frames,
     space: &Space,
-    purpose: Purpose,
+    wanted: Wanted,
     units: &[Unit],
     lists: &[TermList],
 ) -> Result<Answered, NoMemory>
@@ -272,11 +194,11 @@ fn tell_units(
     ensures { IfOk result (λ answered. (s : State) (uid : ℕ) → Indexes frames.now space.now.ranges s uid
         → (region : Region) → AreUnitsIn region frames.now s units.now
         → (words : List (List ℕ)) → lists.now ≡ map (list_at (found_in frames.now.ranges s)) words
-        → answered ≡ answer (view_of s uid) (question_for purpose region words)) }
+        → answered ≡ answer (view_of s uid) (ranking_question wanted region words)) }
 {
-    match purpose {
-        Purpose::Rank { k } => rank_words(alloc, frames, space, k, units, lists),
-        Purpose::Weigh { k } => weigh_words(alloc, units, lists, k),
+    match wanted {
+        Wanted::Best { k } => rank_words(alloc, frames, space, k, units, lists),
+        Wanted::Weighed { k } => weigh_words(alloc, units, lists, k),
     }
 }
 

@@ -2,6 +2,7 @@
 ghost use Rattle.std.specs.Prelude.{◌≡◌, ◌≢◌, ◌<◌, ◌≤◌, ◌++◌, [], ◌∷◌, Some, length, option_map, IfOk, IfErr, IfSome, OnOk};
 ghost use Rattle.wu_base.specs.declared.limits.TheConstants.{TEXT_MAX};
 ghost use Rattle.wu_base.specs.declared.troubles.Trouble.TheVariants.{Damaged};
+ghost use Rattle.wu_outside.specs.Reading.{OnlyReads};
 ghost use Rattle.wu_token.specs.Tokens.{tokens_of};
 ghost use Rattle.wu_query.specs.Finding.{AreFirstOf, IsCause, text_held};
 ghost use Rattle.wu_query.specs.Causes.{IsBrokenIn};
@@ -25,12 +26,10 @@ pub fn read_text<D: Store>(alloc: Global, store: &mut D, file: &FileRec) -> Resu
     ensures tokens { IfOk result (λ text. file.now.range.len ≤ length (tokens_of text.items)) }
     ensures exact { IfOk result (λ text. 2 ≤ file.now.range.len → length (tokens_of text.items) ≡ file.now.range.len) }
     ensures sound { OnOk result (0 < file.now.blob → HasWholeText (D.holds store.old) file.now) }
-    ensures holds { D.holds store.new ≡ D.holds store.old }
-    ensures moments { D.moments store.new ≡ D.moments store.old }
+    ensures store { OnlyReads D.Store store.old store.new result }
     ensures reads { OnOk result (D.reads store.new
         ≡ option_map (λ ranges. ranges ++ whole_text file.now.blob file.now.len) (D.reads store.old)) }
     ensures only { ReadsSuch (AreFirstOf (whole_text file.now.blob file.now.len)) (D.reads store.old) (D.reads store.new) }
-    ensures calm { OnOk result (D.faults store.new ≡ D.faults store.old) }
     ensures cause { IfErr result (IsCause (IsBrokenIn (D.holds store.old) file.now)
         (D.faults store.old) (D.faults store.new) (D.reads store.old) (D.reads store.new)) }
 {
@@ -61,13 +60,11 @@ fn read_blob<D: Store>(alloc: Global, store: &mut D, file: &FileRec) -> Result<V
     requires { 0 < file.now.blob }
     ensures text { IfOk result (λ text. IfSome (D.holds store.old) (λ content. content.blobs file.now.blob ≡ Some text.items)) }
     ensures len { IfOk result (λ text. length text.items ≡ file.now.len) }
-    ensures holds { D.holds store.new ≡ D.holds store.old }
-    ensures moments { D.moments store.new ≡ D.moments store.old }
+    ensures store { OnlyReads D.Store store.old store.new result }
     ensures reads { OnOk result (D.reads store.new
         ≡ option_map (λ ranges. ranges ++ record { blob = file.now.blob; at = 0; len = file.now.len } ∷ []) (D.reads store.old)) }
     ensures only { ReadsSuch (AreFirstOf (record { blob = file.now.blob; at = 0; len = file.now.len } ∷ []))
         (D.reads store.old) (D.reads store.new) }
-    ensures calm { OnOk result (D.faults store.new ≡ D.faults store.old) }
     ensures cause { IfErr result (IsCause (IsBrokenIn (D.holds store.old) file.now)
         (D.faults store.old) (D.faults store.new) (D.reads store.old) (D.reads store.new)) }
 {

@@ -2,6 +2,7 @@
 ghost use Rattle.std.specs.Prelude.{◌≡◌, ◌++◌, ◌∷◌, ℕ, [], map, IfOk, IfErr, OnOk};
 ghost use Rattle.wu_ask.specs.Questions.{ListingTerms};
 ghost use Rattle.wu_lists.specs.Keeping.{Asks};
+ghost use Rattle.wu_outside.specs.Reading.{OnlyReads};
 ghost use Rattle.wu_parts.specs.Candidates.{terms_held};
 ghost use Rattle.wu_space.specs.Addresses.{Ranges};
 ghost use Rattle.wu_terms.specs.Terms.{words_with};
@@ -44,14 +45,11 @@ pub fn user_terms<D: Store>(
         (blocks_for parts.old frames.now.ranges (words_with prefix.now (terms_held parts.old)))
         (D.holds store.old) parts.old.kept parts.new.kept (D.reads store.old) (D.reads store.new)) }
     ensures others { parts.new ≡ record parts.old { kept = parts.new.kept } }
-    ensures holds { D.holds store.new ≡ D.holds store.old }
-    ensures moments { D.moments store.new ≡ D.moments store.old }
-    ensures calm { OnOk result (D.faults store.new ≡ D.faults store.old) }
+    ensures store { OnlyReads D.Store store.old store.new result }
     ensures cause { IfErr result (IsCauseFor parts.old frames.now.ranges
         (words_with prefix.now (terms_held parts.old)) (D.holds store.old)
         (D.faults store.old) (D.faults store.new) (D.reads store.old) (D.reads store.new)) }
 {
-    let _untouched = &*store;
     let words = parts.candidates(prefix)?;
     let found = words_found(alloc, store, &words, frames, parts)?;
     let listing = list_terms(found, k, top);
@@ -79,14 +77,11 @@ fn words_found<D: Store>(
     ensures blocks { OnOk result (Asks (blocks_for parts.old frames.now.ranges words.now)
         (D.holds store.old) parts.old.kept parts.new.kept (D.reads store.old) (D.reads store.new)) }
     ensures others { parts.new ≡ record parts.old { kept = parts.new.kept } }
-    ensures holds { D.holds store.new ≡ D.holds store.old }
-    ensures moments { D.moments store.new ≡ D.moments store.old }
-    ensures calm { OnOk result (D.faults store.new ≡ D.faults store.old) }
+    ensures store { OnlyReads D.Store store.old store.new result }
     ensures cause { IfErr result (IsCauseFor parts.old frames.now.ranges words.now
         (D.holds store.old) (D.faults store.old) (D.faults store.new)
         (D.reads store.old) (D.reads store.new)) }
 {
-    let _untouched = &*store;
     let mut found = Vec::new(alloc);
     for word in words {
         put_word(store, &mut found, word, frames, parts)?;
@@ -108,9 +103,7 @@ fn put_word<D: Store>(
     ensures blocks { OnOk result (Asks (blocks_for parts.old frames.now.ranges (word.now ∷ []))
         (D.holds store.old) parts.old.kept parts.new.kept (D.reads store.old) (D.reads store.new)) }
     ensures others { parts.new ≡ record parts.old { kept = parts.new.kept } }
-    ensures holds { D.holds store.new ≡ D.holds store.old }
-    ensures moments { D.moments store.new ≡ D.moments store.old }
-    ensures calm { OnOk result (D.faults store.new ≡ D.faults store.old) }
+    ensures store { OnlyReads D.Store store.old store.new result }
     ensures cause { IfErr result (IsCauseFor parts.old frames.now.ranges (word.now ∷ [])
         (D.holds store.old) (D.faults store.old) (D.faults store.new)
         (D.reads store.old) (D.reads store.new)) }

@@ -33,8 +33,12 @@ returns-clause-read g c =
     (ReadsCheckpoint c.args.root.now (reads c.args.store.now) (reads c.checkpoint_in.new.store))) own.0 c.in_ok-found.ensures.read)
     c.own_checkpoint.ensures.own
 
-pub returns-clause-calm : goal.returns-clause-calm
-returns-clause-calm g c = on_any_ok _ c.own_checkpoint.result c.in_ok-found.ensures.cause.calm
+pub returns-clause-store : goal.returns-clause-store
+returns-clause-store g c = record {
+  holds = c.checkpoint_in.ensures.store.holds;
+  moments = c.checkpoint_in.ensures.store.moments;
+  calm = on_any_ok _ c.own_checkpoint.result c.in_ok-found.ensures.cause.calm;
+}
 
 pub returns-clause-cause : goal.returns-clause-cause
 returns-clause-cause g c =

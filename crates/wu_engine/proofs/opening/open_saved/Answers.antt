@@ -35,17 +35,17 @@ engine_of-requires-clause-end g c =
 
 pub returns-clause-stands : goal.returns-clause-stands
 returns-clause-stands g c =
-    index_stands c.args.root.now c.in_ok-checkpoint.checkpoint c.open_checkpoint.ensures.holds c.requires.found
-    c.in_ok-checkpoint.ensures.saved c.in_ok-parts.ensures.opened c.in_ok-engine_of.ensures c.open_index.ensures.holds
+    index_stands c.args.root.now c.in_ok-checkpoint.checkpoint c.open_checkpoint.ensures.store.holds c.requires.found
+    c.in_ok-checkpoint.ensures.saved c.in_ok-parts.ensures.opened c.in_ok-engine_of.ensures c.open_index.ensures.store.holds
 
 pub returns-clause-goes : goal.returns-clause-goes
 returns-clause-goes g c = λ content told.
-    index_goes c.args.root.now c.in_ok-checkpoint.checkpoint c.open_checkpoint.ensures.holds c.requires.found
-    c.in_ok-checkpoint.ensures.saved c.in_ok-parts.ensures.opened c.in_ok-engine_of.ensures c.open_index.ensures.holds content told
+    index_goes c.args.root.now c.in_ok-checkpoint.checkpoint c.open_checkpoint.ensures.store.holds c.requires.found
+    c.in_ok-checkpoint.ensures.saved c.in_ok-parts.ensures.opened c.in_ok-engine_of.ensures c.open_index.ensures.store.holds content told
 
 pub returns-clause-open : goal.returns-clause-open
 returns-clause-open g c =
-    index_open c.args.root.now c.in_ok-checkpoint.checkpoint c.open_checkpoint.ensures.holds c.requires.found
+    index_open c.args.root.now c.in_ok-checkpoint.checkpoint c.open_checkpoint.ensures.store.holds c.requires.found
     c.in_ok-checkpoint.ensures.saved c.in_ok-parts.ensures.opened (g.D.Store.reads c.args.store.now) c.in_ok-checkpoint.ensures.read
 
 pub returns-clause-next : goal.returns-clause-next
@@ -95,25 +95,23 @@ returns-clause-drawn g c =
 pub returns-clause-goes_on : goal.returns-clause-goes_on
 returns-clause-goes_on g c = c.in_ok-engine_of.ensures.goes_on
 
-pub returns-clause-holds : goal.returns-clause-holds
-returns-clause-holds g c = c.open_index.ensures.holds ∙ c.open_checkpoint.ensures.holds
-
-pub returns-clause-moments : goal.returns-clause-moments
-returns-clause-moments g c = c.open_index.ensures.moments ∙ c.open_checkpoint.ensures.moments
+pub returns-clause-store : goal.returns-clause-store
+returns-clause-store g c = record {
+  holds = c.open_index.ensures.store.holds ∙ c.open_checkpoint.ensures.store.holds;
+  moments = c.open_index.ensures.store.moments ∙ c.open_checkpoint.ensures.store.moments;
+  calm = c.in_ok-parts.ensures.store.calm ∙ c.in_ok-checkpoint.ensures.store.calm;
+}
 
 -- once the index was asked for, what was read are the checkpoint and some of its ranges
 reads_then : (g : given.Over) (c : After-open_index g)
     → ReadsAtOpening (g.D.Store.holds c.args.store.now) (g.D.Store.reads c.args.store.now) (g.D.Store.reads c.open_index.new.store)
 reads_then g c =
-    index_reads c.args.root.now c.in_ok-checkpoint.checkpoint c.open_checkpoint.ensures.holds c.requires.found
+    index_reads c.args.root.now c.in_ok-checkpoint.checkpoint c.open_checkpoint.ensures.store.holds c.requires.found
     c.in_ok-checkpoint.ensures.saved (g.D.Store.reads c.args.store.now) (g.D.Store.reads c.open_checkpoint.new.store)
     (g.D.Store.reads c.open_index.new.store) c.in_ok-checkpoint.ensures.read c.open_index.ensures.reads
 
 pub returns-clause-reads : goal.returns-clause-reads
 returns-clause-reads g c = reads_then g (goal.at.returns-clause-reads g c).After-open_index
-
-pub returns-clause-calm : goal.returns-clause-calm
-returns-clause-calm g c = c.in_ok-parts.ensures.calm ∙ c.in_ok-checkpoint.ensures.calm
 
 pub returns-in_err-checkpoint-clause-reads : goal.returns-in_err-checkpoint-clause-reads
 returns-in_err-checkpoint-clause-reads g c =
@@ -126,8 +124,8 @@ returns-in_err-parts-clause-reads g c = reads_then g (goal.at.returns-in_err-par
 pub returns-in_err-parts-clause-cause : goal.returns-in_err-parts-clause-cause
 returns-in_err-parts-clause-cause g c =
     err_from _ c.from_residual-in_err-parts.result _ c.from_residual-in_err-parts.ensures.1
-    (index_cause c.args.root.now c.in_ok-checkpoint.checkpoint c.open_checkpoint.ensures.holds c.requires.found
-    c.in_ok-checkpoint.ensures.saved c.in_ok-checkpoint.ensures.calm c.in_err-parts.field-0.0 c.in_err-parts.ensures.cause)
+    (index_cause c.args.root.now c.in_ok-checkpoint.checkpoint c.open_checkpoint.ensures.store.holds c.requires.found
+    c.in_ok-checkpoint.ensures.saved c.in_ok-checkpoint.ensures.store.calm c.in_err-parts.field-0.0 c.in_err-parts.ensures.cause)
 
 pub returns-in_err-engine_of-clause-reads : goal.returns-in_err-engine_of-clause-reads
 returns-in_err-engine_of-clause-reads g c = reads_then g (goal.at.returns-in_err-engine_of-clause-reads g c).After-open_index

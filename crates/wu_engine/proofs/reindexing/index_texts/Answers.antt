@@ -36,9 +36,9 @@ loop-file-preserved g c =
     let done = c.in_ok-index_text.ensures in
     let order = turn-order files index within c.loop-file.parts.memory.end invariant.order in
     record {
-      holds = c.index_text.ensures.holds ∙ invariant.holds;
-      moments = c.index_text.ensures.moments ∙ invariant.moments;
-      calm = done.calm ∙ invariant.calm;
+      holds = c.index_text.ensures.store.holds ∙ invariant.holds;
+      moments = c.index_text.ensures.store.moments ∙ invariant.moments;
+      calm = done.store.calm ∙ invariant.calm;
       others = rw invariant.others at done.others;
       order = rw done.end order.1;
       below = λ next all.

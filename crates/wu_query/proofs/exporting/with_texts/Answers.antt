@@ -24,9 +24,9 @@ loop-place-preserved g c =
     let within : i < length view = search rules in
     let shown : List (List ℕ) → List ℕ → Shown = λ paths text. record { paths = paths; text = text } in
     record {
-      holds = c.text_of.ensures.holds ∙ told.holds;
-      moments = c.text_of.ensures.moments ∙ told.moments;
-      calm = text.calm ∙ told.calm;
+      holds = c.text_of.ensures.store.holds ∙ told.holds;
+      moments = c.text_of.ensures.store.moments ∙ told.moments;
+      calm = text.store.calm ∙ told.calm;
       directories = ap (λ (e : Begun). e.directories) c.in_ok-written.ensures ∙ told.directories;
       written = written_more (λ content. shown_at content files) view i i seen (shown c.as_slice.result.now c.deref.result.now)
           c.args.exporter c.loop-place.written within c.index-view-place.is refl told.directories c.in_ok-written.ensures told.holds

@@ -1,23 +1,17 @@
 use Rattle.std.proofs.Common.{◌≡◌, map, take}
 use Rattle.std.specs.Prelude.{All}
 use Rattle.std.specs.List.Sorted.{IsStrictlyIncreasing}
-use Rattle.wu_lists.specs.Keeping.{Asks}
-use Rattle.wu_query.specs.Asked.{blocks_for}
 use Rattle.wu_query.specs.States.{State}
 use Rattle.wu_query.specs.Searched.{TellsPostings}
-use Rattle.wu_query.specs.Units.{found_in, list_at, wanted}
+use Rattle.wu_query.specs.Units.{found_in, list_at, terms_among}
+use Rattle.wu_query.proofs.FetchedLists.{AskedInTurn}
 use Rattle.wu_query.proofs.fetching.lists_of_words.Given as goal
 
 -- those of the terms so far that are words have their lists, and all of them were asked for in turn
 abbrev pub invariant-loop-term : goal.invariant-loop-term
 invariant-loop-term g l = record {
   lists : (s : State) → TellsPostings l.fn.parts (g.D.Store.holds l.fn.store) s
-      → l.lists.items ≡ map (list_at (found_in l.frames.ranges s)) (wanted l.words (take l.term-index l.terms));
+      → l.lists.items ≡ map (list_at (found_in l.frames.ranges s)) (terms_among l.words (take l.term-index l.terms));
   ascending : All (λ list. IsStrictlyIncreasing list.at) l.lists.items;
-  asked : Asks (blocks_for l.fn.parts l.frames.ranges (take l.term-index l.terms)) (g.D.Store.holds l.fn.store)
-      l.fn.parts.kept l.parts.kept (g.D.Store.reads l.fn.store) (g.D.Store.reads l.store);
-  others : l.parts ≡ record l.fn.parts { kept = l.parts.kept };
-  holds : g.D.Store.holds l.store ≡ g.D.Store.holds l.fn.store;
-  moments : g.D.Store.moments l.store ≡ g.D.Store.moments l.fn.store;
-  calm : g.D.Store.faults l.store ≡ g.D.Store.faults l.fn.store;
+  asked : AskedInTurn g.D.Store l.frames.ranges (take l.term-index l.terms) l.fn.parts l.parts l.fn.store l.store;
 }

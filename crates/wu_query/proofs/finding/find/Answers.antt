@@ -44,7 +44,7 @@ returns-clause-answer g c = λ live s uid is tells keeps.
     c.in_ok-counts.counts.files _ keeps
     (rw (c.deref-2.ensures.value, c.as_slice.ensures) at c.in_ok-counts.ensures.hits)
     (rw (c.deref-2.ensures.value, c.as_slice.ensures) at c.in_ok-counts.ensures.files)
-    (rw (c.deref-3.ensures.value, c.lists_of.ensures.holds, ← c.from.ensures) at c.in_ok-shown.ensures.lines)
+    (rw (c.deref-3.ensures.value, c.lists_of.ensures.store.holds, ← c.from.ensures) at c.in_ok-shown.ensures.lines)
 
 pub returns-clause-reads : goal.returns-clause-reads
 returns-clause-reads g c =
@@ -60,7 +60,7 @@ returns-clause-reads g c =
       texts = texts_shown (hits_at files region lists) (text_at files) c.args.k looked;
       are = record {
         are = are_texts (g.D.Store.holds c.args.store.now) files region lists c.args.k looked
-            (rw (c.deref-3.ensures.value, c.lists_of.ensures.holds) at c.in_ok-shown.ensures.sound);
+            (rw (c.deref-3.ensures.value, c.lists_of.ensures.store.holds) at c.in_ok-shown.ensures.sound);
         shown = λ live s uid is tells keeps.
             looked_texts c.args.frames.now live s uid is region terms c.in_ok-terms.ensures files lists
             (c.in_ok-lists.ensures.lists s tells ∙ ap (map (list_at (found_in c.args.frames.now.ranges s))) c.deref.ensures.value)
@@ -81,7 +81,7 @@ returns-in_err-lists-clause-cause g c =
 
 pub returns-in_err-counts-clause-cause : goal.returns-in_err-counts-clause-cause
 returns-in_err-counts-clause-cause g c =
-    cause_of_memory c.from_residual-in_err-counts.result _ _ _ c.in_ok-lists.ensures.calm c.from_residual-in_err-counts.ensures.1
+    cause_of_memory c.from_residual-in_err-counts.result _ _ _ c.in_ok-lists.ensures.store.calm c.from_residual-in_err-counts.ensures.1
 
 pub returns-in_err-shown-clause-cause : goal.returns-in_err-shown-clause-cause
 returns-in_err-shown-clause-cause g c =
@@ -90,7 +90,7 @@ returns-in_err-shown-clause-cause g c =
     c.in_ok-terms.ensures c.deref-3.result.now
     (λ s tells. c.deref-3.ensures.value ∙ c.in_ok-lists.ensures.lists s tells
     ∙ ap (map (list_at (found_in c.args.frames.now.ranges s))) c.deref.ensures.value)
-    c.args.k (nat_le c.in_ok-counts.counts.hits 4096) c.lists_of.ensures.holds c.in_ok-lists.ensures.calm _ _
+    c.args.k (nat_le c.in_ok-counts.counts.hits 4096) c.lists_of.ensures.store.holds c.in_ok-lists.ensures.store.calm _ _
     c.in_ok-lists.ensures.blocks.read c.in_err-shown.ensures.cause
 
 pub returns-in_err-lists-clause-permitted : goal.returns-in_err-lists-clause-permitted

@@ -41,9 +41,9 @@ loop-seen-preserved g c =
     let within : i < length view = search rules in
     let long : c.len-in-loop-seen.result ≡ length before = search rules in
     record {
-      holds = put.holds ∙ told.holds;
-      moments = c.put_file.ensures.moments ∙ told.moments;
-      calm = put.calm ∙ told.calm;
+      holds = put.store.holds ∙ told.holds;
+      moments = c.put_file.ensures.store.moments ∙ told.moments;
+      calm = put.store.calm ∙ told.calm;
       none = λ h. absurd (omega (arith, c.if-len-k.false));
       lines = lines_kept k i view seen within c.seen-item.is before after (λ content. lines_at content files region lists)
           (λ content. take k (flat_map (lines_at content files region lists) view)) long told.holds put.lines told.lines;

@@ -1,48 +1,40 @@
 use Rattle.std.proofs.Common.{◌∙◌, [], refl}
-use Rattle.std.proofs.lemmas.Result.{on_ok_weaker}
 use Rattle.wu_ask.specs.Questions.{Counting, ListingPaths, ListingTerms, Ranking, Weighing}
 use Rattle.wu_gcl.specs.Regions.{region_of}
 use Rattle.wu_lists.proofs.Asking.{asks-none}
-use Rattle.wu_parts.specs.Candidates.{terms_held}
-use Rattle.wu_query.specs.Asked.{blocks_for, terms_asked}
 use Rattle.wu_query.proofs.AnswerLemmas.{if_ok, paths_listed}
 use Rattle.wu_query.proofs.ExportedFiles.{cause_of_export, texts_alone}
-use Rattle.wu_query.proofs.FirstLines.{none_counted, none_listed, none_of_terms, none_ranked, none_weighed}
-use Rattle.wu_query.proofs.PermittedBlocks.{fetched_permitted}
-use Rattle.wu_query.proofs.QueryReads.{blocks_alone, cause_fetched, cause_of_memory}
+use Rattle.wu_query.proofs.FetchedAlone.{OnlyFetches, only_fetches}
+use Rattle.wu_query.proofs.FirstLines.{no_text_read}
+use Rattle.wu_query.proofs.QueryReads.{blocks_alone, cause_of_memory}
 use Rattle.wu_query.proofs.ReadCauses.{if_err}
+use Rattle.wu_query.proofs.querying.answer.Given as given
 use Rattle.wu_query.proofs.querying.answer.Goals as goal
+use Rattle.wu_query.proofs.querying.answer.Goals.{After-count, After-ranked, After-ranked-in-Weighed, After-user_terms}
+
+counted : (g : given.Over) (c : After-count g)
+    → OnlyFetches g.D.Store c.args.frames.now (Counting (region_of c.in-Count.expr)) c.args.files.now.entries
+    c.args.parts.now c.count.new.parts c.args.store.now c.count.new.store c.count.result
+counted g c = only_fetches tt c.count.ensures.blocks c.count.ensures.cause
 
 pub returns-in-Count-clause-answer : goal.returns-in-Count-clause-answer
 returns-in-Count-clause-answer g c =
     rw c.in-Count.is
-    (if_ok c.count.result c.count.ensures.answer (λ answered known. λ s uid is tells keeps. known c.args.space.now.ranges s uid is tells))
+    (if_ok c.count.result c.count.ensures.answer
+    (λ answered known. λ s uid is tells keeps. known c.args.space.now.ranges s uid is tells))
 
 pub returns-in-Count-clause-reads : goal.returns-in-Count-clause-reads
 returns-in-Count-clause-reads g c =
-    let frames = c.args.frames.now in
-    let parts = c.args.parts.now in
-    let question = Counting (region_of c.in-Count.expr) in
-    rw c.in-Count.is
-    (on_ok_weaker c.count.result
-    (blocks_alone question (blocks_for parts frames.ranges (terms_asked (terms_held parts) question)) frames parts c.args.files.now.entries
-    (g.D.Store.holds c.args.store.now) parts.kept c.count.new.parts.kept (g.D.Store.reads c.args.store.now)
-    (g.D.Store.reads c.count.new.store) (λ s uid. none_counted s uid (region_of c.in-Count.expr)))
-    c.count.ensures.blocks)
+    rw c.in-Count.is (counted g (goal.at.returns-in-Count-clause-reads g c).After-count).reads
 
 pub returns-in-Count-clause-permitted : goal.returns-in-Count-clause-permitted
 returns-in-Count-clause-permitted g c = λ s uid is tells keeps.
     rw c.in-Count.is
-    (fetched_permitted c.args.frames.now c.args.space.now.ranges s uid is c.args.parts.now (g.D.Store.holds c.args.store.now) tells
-    (Counting (region_of c.in-Count.expr)) refl (g.D.Store.reads c.args.store.now) (g.D.Store.reads c.count.new.store) c.count.result
-    c.count.new.parts.kept _ _ c.count.ensures.blocks c.count.ensures.cause)
+    ((counted g (goal.at.returns-in-Count-clause-permitted g c).After-count).permitted c.args.space.now.ranges s uid is tells)
 
 pub returns-in-Count-clause-cause : goal.returns-in-Count-clause-cause
 returns-in-Count-clause-cause g c =
-    rw c.in-Count.is
-    (if_err c.count.result c.count.ensures.cause
-    (λ trouble cause. cause_fetched c.args.frames.now (Counting (region_of c.in-Count.expr)) c.args.parts.now c.args.files.now.entries
-    (g.D.Store.holds c.args.store.now) refl cause))
+    rw c.in-Count.is (counted g (goal.at.returns-in-Count-clause-cause g c).After-count).cause
 
 pub returns-in-Find-clause-answer : goal.returns-in-Find-clause-answer
 returns-in-Find-clause-answer g c =
@@ -53,6 +45,13 @@ returns-in-Find-clause-answer g c =
 pub returns-in-Find-clause-reads : goal.returns-in-Find-clause-reads
 returns-in-Find-clause-reads g c = rw c.in-Find.is c.find.ensures.reads
 
+ranked : (g : given.Over) (c : After-ranked g)
+    → OnlyFetches g.D.Store c.args.frames.now (Ranking c.in-Rank.k (region_of c.in-Rank.unit) c.in-Rank.words)
+    c.args.files.now.entries c.args.parts.now c.ranked.new.parts c.args.store.now c.ranked.new.store c.ranked.result
+ranked g c =
+    only_fetches tt (rw c.as_slice.ensures at c.ranked.ensures.blocks)
+    (rw c.as_slice.ensures at c.ranked.ensures.cause)
+
 pub returns-in-Rank-clause-answer : goal.returns-in-Rank-clause-answer
 returns-in-Rank-clause-answer g c =
     rw c.in-Rank.is
@@ -61,30 +60,16 @@ returns-in-Rank-clause-answer g c =
 
 pub returns-in-Rank-clause-reads : goal.returns-in-Rank-clause-reads
 returns-in-Rank-clause-reads g c =
-    let frames = c.args.frames.now in
-    let parts = c.args.parts.now in
-    let question = Ranking c.in-Rank.k (region_of c.in-Rank.unit) c.in-Rank.words in
-    rw c.in-Rank.is
-    (on_ok_weaker c.ranked.result
-    (blocks_alone question (blocks_for parts frames.ranges (terms_asked (terms_held parts) question)) frames parts c.args.files.now.entries
-    (g.D.Store.holds c.args.store.now) parts.kept c.ranked.new.parts.kept (g.D.Store.reads c.args.store.now)
-    (g.D.Store.reads c.ranked.new.store) (λ s uid. none_ranked s uid c.in-Rank.k (region_of c.in-Rank.unit) c.in-Rank.words))
-    (rw c.as_slice.ensures at c.ranked.ensures.blocks))
+    rw c.in-Rank.is (ranked g (goal.at.returns-in-Rank-clause-reads g c).After-ranked).reads
 
 pub returns-in-Rank-clause-permitted : goal.returns-in-Rank-clause-permitted
 returns-in-Rank-clause-permitted g c = λ s uid is tells keeps.
     rw c.in-Rank.is
-    (fetched_permitted c.args.frames.now c.args.space.now.ranges s uid is c.args.parts.now (g.D.Store.holds c.args.store.now) tells
-    (Ranking c.in-Rank.k (region_of c.in-Rank.unit) c.in-Rank.words) refl (g.D.Store.reads c.args.store.now)
-    (g.D.Store.reads c.ranked.new.store) c.ranked.result c.ranked.new.parts.kept _ _ (rw c.as_slice.ensures at c.ranked.ensures.blocks)
-    (rw c.as_slice.ensures at c.ranked.ensures.cause))
+    ((ranked g (goal.at.returns-in-Rank-clause-permitted g c).After-ranked).permitted c.args.space.now.ranges s uid is tells)
 
 pub returns-in-Rank-clause-cause : goal.returns-in-Rank-clause-cause
 returns-in-Rank-clause-cause g c =
-    rw c.in-Rank.is
-    (if_err c.ranked.result (rw c.as_slice.ensures at c.ranked.ensures.cause)
-    (λ trouble cause. cause_fetched c.args.frames.now (Ranking c.in-Rank.k (region_of c.in-Rank.unit) c.in-Rank.words) c.args.parts.now
-    c.args.files.now.entries (g.D.Store.holds c.args.store.now) refl cause))
+    rw c.in-Rank.is (ranked g (goal.at.returns-in-Rank-clause-cause g c).After-ranked).cause
 
 pub returns-in_ok-paths-in-Paths-clause-answer : goal.returns-in_ok-paths-in-Paths-clause-answer
 returns-in_ok-paths-in-Paths-clause-answer g c = λ s uid is tells texts.
@@ -98,11 +83,18 @@ returns-in_ok-paths-in-Paths-clause-reads g c =
     let holds = g.D.Store.holds c.args.store.now in
     let reads = g.D.Store.reads c.args.store.now in
     rw c.in-Paths.is
-    (blocks_alone ListingPaths [] c.args.frames.now parts c.args.files.now.entries holds parts.kept parts.kept reads reads none_listed
-    (asks-none holds parts.kept reads))
+    (blocks_alone ListingPaths [] c.args.frames.now parts c.args.files.now.entries holds parts.kept parts.kept reads reads
+    (no_text_read ListingPaths tt) (asks-none holds parts.kept reads))
 
 pub returns-in_err-paths-in-Paths-clause-cause : goal.returns-in_err-paths-in-Paths-clause-cause
 returns-in_err-paths-in-Paths-clause-cause g c = cause_of_memory c.from_residual.result _ _ _ refl c.from_residual.ensures.1
+
+listed : (g : given.Over) (c : After-user_terms g)
+    → OnlyFetches g.D.Store c.args.frames.now (ListingTerms c.in-Terms.k c.in-Terms.prefix c.in-Terms.top)
+    c.args.files.now.entries c.args.parts.now c.user_terms.new.parts c.args.store.now c.user_terms.new.store c.user_terms.result
+listed g c =
+    only_fetches tt (rw c.as_slice-in-Terms.ensures at c.user_terms.ensures.blocks)
+    (rw c.as_slice-in-Terms.ensures at c.user_terms.ensures.cause)
 
 pub returns-in-Terms-clause-answer : goal.returns-in-Terms-clause-answer
 returns-in-Terms-clause-answer g c =
@@ -112,31 +104,16 @@ returns-in-Terms-clause-answer g c =
 
 pub returns-in-Terms-clause-reads : goal.returns-in-Terms-clause-reads
 returns-in-Terms-clause-reads g c =
-    let frames = c.args.frames.now in
-    let parts = c.args.parts.now in
-    let question = ListingTerms c.in-Terms.k c.in-Terms.prefix c.in-Terms.top in
-    rw c.in-Terms.is
-    (on_ok_weaker c.user_terms.result
-    (blocks_alone question (blocks_for parts frames.ranges (terms_asked (terms_held parts) question)) frames parts
-    c.args.files.now.entries (g.D.Store.holds c.args.store.now) parts.kept c.user_terms.new.parts.kept
-    (g.D.Store.reads c.args.store.now) (g.D.Store.reads c.user_terms.new.store)
-    (λ s uid. none_of_terms s uid c.in-Terms.k c.in-Terms.prefix c.in-Terms.top))
-    (rw c.as_slice-in-Terms.ensures at c.user_terms.ensures.blocks))
+    rw c.in-Terms.is (listed g (goal.at.returns-in-Terms-clause-reads g c).After-user_terms).reads
 
 pub returns-in-Terms-clause-permitted : goal.returns-in-Terms-clause-permitted
 returns-in-Terms-clause-permitted g c = λ s uid is tells keeps.
     rw c.in-Terms.is
-    (fetched_permitted c.args.frames.now c.args.space.now.ranges s uid is c.args.parts.now (g.D.Store.holds c.args.store.now) tells
-    (ListingTerms c.in-Terms.k c.in-Terms.prefix c.in-Terms.top) refl (g.D.Store.reads c.args.store.now)
-    (g.D.Store.reads c.user_terms.new.store) c.user_terms.result c.user_terms.new.parts.kept _ _
-    (rw c.as_slice-in-Terms.ensures at c.user_terms.ensures.blocks) (rw c.as_slice-in-Terms.ensures at c.user_terms.ensures.cause))
+    ((listed g (goal.at.returns-in-Terms-clause-permitted g c).After-user_terms).permitted c.args.space.now.ranges s uid is tells)
 
 pub returns-in-Terms-clause-cause : goal.returns-in-Terms-clause-cause
 returns-in-Terms-clause-cause g c =
-    rw c.in-Terms.is
-    (if_err c.user_terms.result (rw c.as_slice-in-Terms.ensures at c.user_terms.ensures.cause)
-    (λ trouble cause. cause_fetched c.args.frames.now (ListingTerms c.in-Terms.k c.in-Terms.prefix c.in-Terms.top) c.args.parts.now
-    c.args.files.now.entries (g.D.Store.holds c.args.store.now) refl cause))
+    rw c.in-Terms.is (listed g (goal.at.returns-in-Terms-clause-cause g c).After-user_terms).cause
 
 pub returns-in-Export-clause-answer : goal.returns-in-Export-clause-answer
 returns-in-Export-clause-answer g c =
@@ -161,36 +138,29 @@ returns-in-Export-clause-cause g c =
     (λ trouble cause. cause_of_export c.args.frames.now c.args.parts.now c.args.files.now.entries (g.D.Store.holds c.args.store.now)
     cause))
 
+weighed : (g : given.Over) (c : After-ranked-in-Weighed g)
+    → OnlyFetches g.D.Store c.args.frames.now (Weighing c.in-Weighed.k (region_of c.in-Weighed.unit) c.in-Weighed.words)
+    c.args.files.now.entries c.args.parts.now c.ranked-in-Weighed.new.parts c.args.store.now c.ranked-in-Weighed.new.store
+    c.ranked-in-Weighed.result
+weighed g c =
+    only_fetches tt (rw c.as_slice-in-Weighed.ensures at c.ranked-in-Weighed.ensures.blocks)
+    (rw c.as_slice-in-Weighed.ensures at c.ranked-in-Weighed.ensures.cause)
+
 pub returns-in-Weighed-clause-answer : goal.returns-in-Weighed-clause-answer
 returns-in-Weighed-clause-answer g c =
     rw c.in-Weighed.is
-    (if_ok c.weighed.result (rw c.as_slice-in-Weighed.ensures at c.weighed.ensures.answer)
+    (if_ok c.ranked-in-Weighed.result (rw c.as_slice-in-Weighed.ensures at c.ranked-in-Weighed.ensures.answer)
     (λ answered known. λ s uid is tells keeps. known s uid is tells))
 
 pub returns-in-Weighed-clause-reads : goal.returns-in-Weighed-clause-reads
 returns-in-Weighed-clause-reads g c =
-    let frames = c.args.frames.now in
-    let parts = c.args.parts.now in
-    let question = Weighing c.in-Weighed.k (region_of c.in-Weighed.unit) c.in-Weighed.words in
-    rw c.in-Weighed.is
-    (on_ok_weaker c.weighed.result
-    (blocks_alone question (blocks_for parts frames.ranges (terms_asked (terms_held parts) question)) frames parts c.args.files.now.entries
-    (g.D.Store.holds c.args.store.now) parts.kept c.weighed.new.parts.kept (g.D.Store.reads c.args.store.now)
-    (g.D.Store.reads c.weighed.new.store) (λ s uid. none_weighed s uid c.in-Weighed.k (region_of c.in-Weighed.unit) c.in-Weighed.words))
-    (rw c.as_slice-in-Weighed.ensures at c.weighed.ensures.blocks))
+    rw c.in-Weighed.is (weighed g (goal.at.returns-in-Weighed-clause-reads g c).After-ranked-in-Weighed).reads
 
 pub returns-in-Weighed-clause-permitted : goal.returns-in-Weighed-clause-permitted
 returns-in-Weighed-clause-permitted g c = λ s uid is tells keeps.
     rw c.in-Weighed.is
-    (fetched_permitted c.args.frames.now c.args.space.now.ranges s uid is c.args.parts.now (g.D.Store.holds c.args.store.now) tells
-    (Weighing c.in-Weighed.k (region_of c.in-Weighed.unit) c.in-Weighed.words) refl (g.D.Store.reads c.args.store.now)
-    (g.D.Store.reads c.weighed.new.store) c.weighed.result c.weighed.new.parts.kept _ _
-    (rw c.as_slice-in-Weighed.ensures at c.weighed.ensures.blocks)
-    (rw c.as_slice-in-Weighed.ensures at c.weighed.ensures.cause))
+    ((weighed g (goal.at.returns-in-Weighed-clause-permitted g c).After-ranked-in-Weighed).permitted c.args.space.now.ranges s uid is tells)
 
 pub returns-in-Weighed-clause-cause : goal.returns-in-Weighed-clause-cause
 returns-in-Weighed-clause-cause g c =
-    rw c.in-Weighed.is
-    (if_err c.weighed.result (rw c.as_slice-in-Weighed.ensures at c.weighed.ensures.cause)
-    (λ trouble cause. cause_fetched c.args.frames.now (Weighing c.in-Weighed.k (region_of c.in-Weighed.unit) c.in-Weighed.words) c.args.parts.now
-    c.args.files.now.entries (g.D.Store.holds c.args.store.now) refl cause))
+    rw c.in-Weighed.is (weighed g (goal.at.returns-in-Weighed-clause-cause g c).After-ranked-in-Weighed).cause

@@ -32,6 +32,6 @@ returns-in_err-found-clause-cause g c =
 pub returns-in_err-shown-clause-cause : goal.returns-in_err-shown-clause-cause
 returns-in_err-shown-clause-cause g c =
     cause_at_last c.from_residual-in_err-shown.result c.args.parts.now c.args.frames.now.ranges
-    (words_with c.args.prefix.now (terms_held c.args.parts.now)) c.in_ok-found.ensures.calm
+    (words_with c.args.prefix.now (terms_held c.args.parts.now)) c.in_ok-found.ensures.store.calm
     (rw (c.deref.ensures.value ∙ c.in_ok-words.ensures) at c.in_ok-found.ensures.blocks)
     c.from_residual-in_err-shown.ensures.1

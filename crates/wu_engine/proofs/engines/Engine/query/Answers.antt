@@ -13,7 +13,7 @@ returns-in-Ok-clause-answer g c = λ s stands.
       c.in-Ok.ensures.answer s stands.index.tree (ranges_told old holds s stands) (postings_told old holds s stands)
           (texts_kept old holds s stands),
       stands_on old holds s stands _ (g.D.Store.holds c.answered.new.store) c.args.query.now.uid (question_of c.args.query.now.ask) _ _ _
-          refl c.answered.ensures.holds refl refl refl refl c.answered.ensures.others c.in-Ok.ensures.reads,
+          refl c.answered.ensures.store.holds refl refl refl refl c.answered.ensures.others c.in-Ok.ensures.reads,
     )
 
 pub returns-in-Ok-clause-reads : goal.returns-in-Ok-clause-reads

@@ -5,12 +5,12 @@ use Rattle.wu_base.specs.declared.addresses.TermList.{TermList}
 use Rattle.wu_gcl.specs.Regions.{region_of}
 use Rattle.wu_gcl.specs.Terms.{AreTerms}
 use Rattle.wu_query.specs.Asked.{terms_of, with_words}
-use Rattle.wu_query.specs.Units.{wanted}
+use Rattle.wu_query.specs.Units.{terms_among}
 use Rattle.wu_query.proofs.AskedTerms.{enough_asked, first_asked, terms_named, wanted_among, words_among}
 use Rattle.wu_query.proofs.PassedCauses.{cause_at_last, cause_at_once, cause_passed}
-use Rattle.wu_query.proofs.ranking.answer_for.Given as given
-use Rattle.wu_query.proofs.ranking.answer_for.Goals as goal
-use Rattle.wu_query.proofs.ranking.answer_for.Goals.{In_ok-asked}
+use Rattle.wu_query.proofs.ranking.ranked.Given as given
+use Rattle.wu_query.proofs.ranking.ranked.Goals as goal
+use Rattle.wu_query.proofs.ranking.ranked.Goals.{In_ok-asked}
 
 pub returns-in_err-terms-clause-cause : goal.returns-in_err-terms-clause-cause
 returns-in_err-terms-clause-cause g c =
@@ -38,7 +38,7 @@ returns-in-File-clause-answer g c = λ s uid is tells.
     let asked = with_words c.in_ok-terms.terms.items words in
     let e : c.deref.result.now ≡ asked = c.deref.ensures.value ∙ c.in_ok-asked.ensures in
     rw c.in-File.is
-    (c.in_ok-rank_file_lists-in-File.ensures s uid is (wanted words asked)
+    (c.in_ok-rank_file_lists-in-File.ensures s uid is (terms_among words asked)
     (c.deref-in-File.ensures.value ∙ (rw e at c.in_ok-lists-in-File.ensures.lists s tells))
     (wanted_among asked words (words_among c.in_ok-terms.terms.items words)))
 
@@ -56,7 +56,7 @@ returns-in_err-lists-in-File-clause-cause g c =
 pub returns-in_err-rank_file_lists-in-File-clause-cause : goal.returns-in_err-rank_file_lists-in-File-clause-cause
 returns-in_err-rank_file_lists-in-File-clause-cause g c =
     cause_at_last c.from_residual-in_err-rank_file_lists-in-File.result c.args.parts.now c.args.frames.now.ranges
-    (with_words (terms_of (region_of c.args.unit.now)) c.args.words.now) c.in_ok-lists-in-File.ensures.calm
+    (with_words (terms_of (region_of c.args.unit.now)) c.args.words.now) c.in_ok-lists-in-File.ensures.store.calm
     (rw (c.deref.ensures.value ∙ asked_is g (goal.at.returns-in_err-rank_file_lists-in-File-clause-cause g c).In_ok-asked)
     at c.in_ok-lists-in-File.ensures.blocks) c.from_residual-in_err-rank_file_lists-in-File.ensures.1
 
@@ -109,6 +109,6 @@ returns-in_err-lists-in_default-clause-cause g c =
 pub returns-in_err-rank_lists-in_default-clause-cause : goal.returns-in_err-rank_lists-in_default-clause-cause
 returns-in_err-rank_lists-in_default-clause-cause g c =
     cause_at_last c.from_residual-in_err-rank_lists-in_default.result c.args.parts.now c.args.frames.now.ranges
-    (with_words (terms_of (region_of c.args.unit.now)) c.args.words.now) c.in_ok-lists-in_default.ensures.calm
+    (with_words (terms_of (region_of c.args.unit.now)) c.args.words.now) c.in_ok-lists-in_default.ensures.store.calm
     (rw (c.deref-in_default.ensures.value ∙ asked_is g (goal.at.returns-in_err-rank_lists-in_default-clause-cause g c).In_ok-asked)
     at c.in_ok-lists-in_default.ensures.blocks) c.from_residual-in_err-rank_lists-in_default.ensures.1
