@@ -37,3 +37,12 @@ pub mod CrashesAtEnd
 pub mod ReadsAtEnd
 pub mod AnsweredTurns
 pub mod NamedCheckpoints
+pub mod WrittenLines
+pub mod WrittenItems
+pub mod ShownPaths
+pub mod ExportableViews
+pub mod NumberedEntries
+pub mod RebuiltTexts
+pub mod RebuiltStates
+pub mod ShortNumbers
+pub mod SavedNumbers

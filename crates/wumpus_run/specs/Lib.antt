@@ -10,6 +10,8 @@ pub mod Permitted
 pub mod Crashes
 -- the line of a demonstration
 pub mod Demo
+-- what a session makes of an export
+pub mod Rebuilt
 -- ---- What only private functions and proofs need
 
 pub mod Ended
