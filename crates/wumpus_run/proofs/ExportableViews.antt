@@ -1,8 +1,7 @@
 -- The view of a user is one that is made again by its export.
-use Rattle.std.proofs.Common.{◌≡◌, ◌≢◌, ℕ, ◌≤◌, true, false, List, [], ◌∷◌, ◌++◌, length, refl, ap, ap₂, sym, ◌∙◌, subst, arith}
+use Rattle.std.proofs.Common.{◌≡◌, ℕ, ◌≤◌, true, false, List, [], ◌∷◌, ◌++◌, length, refl, ap, ap₂, sym, ◌∙◌, subst, arith}
 use Rattle.std.proofs.Common.{length-append}
-use Rattle.std.specs.Prelude.{◌==◌, map, ◌&&◌, not, Option, None, Some}
-use Rattle.std.specs.List.{AllByRecursion, Contains}
+use Rattle.std.specs.Prelude.{◌==◌, map, not, Option, None, Some}
 use Rattle.std.specs.List.Sorted.{IsStrictlySortedBy}
 use Rattle.std.proofs.lemmas.Cmp.{nat_list_cmp_total}
 use Rattle.std.proofs.lemmas.Map.Lookups.{exact_bytes}
@@ -10,10 +9,10 @@ use borrow.Author.Tests.{eqb-true}
 use Rattle.wu_base.proofs.Members.{Has, Has-from_Contains, all_from_has, flat_map_has, map_has}
 use Rattle.wu_base.proofs.SortedLists.{sorted-sorted_once, sorted_once_has}
 use Rattle.wu_tree.specs.declared.events.Node.{Node}
-use Rattle.wu_tree.specs.FileSystems.{FileSystem, Link, is_directory, is_directory_node, is_file, is_file_node, is_kind_file, node_of}
+use Rattle.wu_tree.specs.FileSystems.{FileSystem, Link, is_directory_node, is_file, is_file_node, node_of}
 use Rattle.wu_tree.specs.Rules.{IsTree}
 use Rattle.wu_view.specs.declared.Seen.{Seen}
-use Rattle.wu_view.specs.Views.{directory_path, first_of, least_path, path_cmp, path_of, seen_as, view_for, view_of}
+use Rattle.wu_view.specs.Views.{directory_path, first_of, least_path, path_cmp, path_of, seen_as, view_of}
 use Rattle.wu_view.proofs.LeastPaths.{by_least_path, not_one, same_file}
 use Rattle.wu_view.proofs.LinkPaths.{root_path}
 use Rattle.wu_view.proofs.ShownFiles.{opened_paths}

@@ -1,10 +1,9 @@
 -- The numbers of an export's entries are numbers of nodes: there are no more of them than nodes in the tree.
-use Rattle.std.proofs.Common.{◌≡◌, ◌≢◌, ℕ, zero, suc, ◌+◌, ◌-◌, ◌^◌, ◌<◌, ◌≤◌, Bool, true, false, eqb, List, [], ◌∷◌, ◌++◌, length, drop}
+use Rattle.std.proofs.Common.{◌≡◌, ℕ, zero, suc, ◌+◌, ◌^◌, ◌<◌, ◌≤◌, Bool, true, false, eqb, List, [], ◌∷◌, ◌++◌, length, drop}
 use Rattle.std.proofs.Common.{map, refl, ap, sym, ◌∙◌, subst, length-append, arith, inl, inr, ⊎_elim}
 use Rattle.std.proofs.lemmas.List.{length-map}
 use Rattle.std.proofs.lemmas.List.Sums.{count_by-le-length}
 use Rattle.std.specs.Prelude.{◌==◌, count_by, Option, None, Some, ◌&&◌, not}
-use Rattle.std.specs.declared.cmp.Ordering.{Ordering}
 use Rattle.std.specs.declared.cmp.Ordering.TheVariants.{Less, Equal}
 use Rattle.std.specs.List.{AllByRecursion, IsDistinct, flat_map, list_any}
 use Rattle.std.specs.List.Sorted.{IsStrictlySortedBy}
@@ -23,17 +22,17 @@ use Rattle.wu_tree.specs.FileSystems.{FileSystem, are_name_bytes, is_directory, 
 use Rattle.wu_tree.specs.FileSystems.{is_name, is_name_length, node_of}
 use Rattle.wu_tree.specs.Rules.{IsTree}
 use Rattle.wu_view.specs.declared.Seen.{Seen}
-use Rattle.wu_view.specs.Views.{directory_path, least_path, path_cmp, path_of, seen_as, view_of}
+use Rattle.wu_view.specs.Views.{directory_path, least_path, path_cmp, seen_as, view_of}
 use Rattle.wu_view.proofs.LeastPaths.{by_least_path, not_one}
 use Rattle.wu_view.proofs.LinkPaths.{link_facts, root_path}
 use Rattle.wu_export.specs.declared.Shown.{Shown}
-use Rattle.wu_export.specs.Exports.{Entry, Directory, File, Link, Text, comes_before, directories_of, directories_on, directory_entry}
+use Rattle.wu_export.specs.Exports.{comes_before, directories_of, directories_on, directory_entry}
 use Rattle.wu_export.specs.Exports.{entries_of, file_entries}
 use Rattle.wu_export.specs.Exports.{files_from, first_file, is_slash, last_name, link_entry, number_of, path_entries, paths_in}
 use Rattle.wu_export.specs.Exports.{text_entries}
 use Rattle.wumpus_run.specs.Rebuilt.{HasShortNumbers}
 use Rattle.wumpus_run.proofs.ExportableViews.{IsPathOfView, directory_in_view, never_both, path_in_view, shown_view}
-use Rattle.wumpus_run.proofs.ShownPaths.{IsDirectoryPath, IsSeen, IsSlashless, name_slashless, path_through, seen_in_view, user}
+use Rattle.wumpus_run.proofs.ShownPaths.{IsDirectoryPath, IsSlashless, name_slashless, path_through, seen_in_view, user}
 use Rattle.wumpus_run.proofs.WrittenLines.{IsNumber, IsSayable}
 
 -- ---- numbers that differ

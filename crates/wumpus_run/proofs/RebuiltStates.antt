@@ -1,31 +1,28 @@
 -- A session whose input is an export makes the files of its view, and tells their user what she was told of them.
-use Rattle.std.proofs.Common.{◌≡◌, ℕ, ◌≤◌, List, [], ◌∷◌, ◌++◌, length, map, Option, None, Some, Result, Ok, Err, refl, ap, ap₂, sym, ◌∙◌}
+use Rattle.std.proofs.Common.{◌≡◌, ℕ, ◌≤◌, List, [], ◌∷◌, ◌++◌, length, map, Option, None, Some, Result, Ok, refl, ap, ap₂, sym, ◌∙◌}
 use Rattle.std.proofs.Common.{subst}
 use Rattle.std.proofs.Common.{append-nil}
 use Rattle.std.specs.List.{All, AllByRecursion, flat_map}
 use Rattle.std.proofs.lemmas.List.Elements.{All-from_recursion, recursion_from_All}
 use Rattle.wu_base.specs.declared.limits.TheConstants.{TEXT_MAX}
-use Rattle.wu_base.proofs.Members.{Has, map_has}
-use Rattle.wu_ask.specs.Questions.{Question}
+use Rattle.wu_base.proofs.Members.{map_has}
 use Rattle.wu_tree.specs.FileSystems.{FileSystem}
 use Rattle.wu_tree.specs.Steps.{effect_of, next, refusal_of, step as tree_step, unless_refused}
 use Rattle.wu_tree.specs.declared.events.Effect.{Effect}
 use Rattle.wu_tree.specs.declared.events.Refusal.{Refusal}
-use Rattle.wu_view.specs.declared.Seen.{Seen}
 use Rattle.wu_view.specs.Views.{view_of as files_of}
 use Rattle.wu_export.specs.declared.Shown.{Shown}
-use Rattle.wu_export.specs.Exports.{Entry as Made, Directory, File, Link, Text, commands_of, directories_of, entries_of, export_of}
-use Rattle.wu_export.specs.Exports.{first_file}
-use Rattle.wu_export.specs.Rebuilding.{IsExportable, IsRebuilt as IsMadeAgain, Makes, event_of, seen_from}
+use Rattle.wu_export.specs.Exports.{Entry as Made, Directory, File, Link, Text, entries_of, export_of}
+use Rattle.wu_export.specs.Rebuilding.{IsExportable, IsRebuilt as IsMadeAgain, Makes, event_of}
 use Rattle.wu_export.proofs.Rebuilt.{rebuilt}
 use Rattle.wu_script.specs.declared.types.Reply.TheVariants.{Answered, Ok as Accepted}
 use Rattle.wu_script.specs.Commands.{Entry}
 use Rattle.wu_script.specs.Items.{items_of}
 use Rattle.wu_script.specs.Replies.{reply_bytes}
-use Rattle.wu_script.specs.Said.{Reading, Said, Happens, Asks, Operates, IsRefused, SaysNothing, said_of}
+use Rattle.wu_script.specs.Said.{Said, Happens, Asks, Operates, IsRefused, SaysNothing, said_of}
 use Rattle.wu_script.proofs.ItemListLemmas.{items_of-none}
 use Rattle.wu_query.specs.Answer.{answer}
-use Rattle.wu_query.specs.States.{IsState, State, Texts, text_in}
+use Rattle.wu_query.specs.States.{IsState, State, Texts}
 use Rattle.wu_query.specs.View.{shown_of, view_of}
 use Rattle.wu_engine.specs.Stands.{verdict_of}
 use Rattle.wu_engine.specs.States.{first_state, followed, layout_after, step, texts_after}

@@ -1,5 +1,5 @@
 -- The texts that the entries of an export give are those of its files.
-use Rattle.std.proofs.Common.{◌≡◌, ◌≢◌, ℕ, ◌+◌, ◌<◌, ◌≤◌, List, [], ◌∷◌, ◌++◌, length, cond, map, refl, ap, ap₂, sym, ◌∙◌, arith}
+use Rattle.std.proofs.Common.{◌≡◌, ◌≢◌, ℕ, ◌+◌, ◌<◌, ◌≤◌, List, [], ◌∷◌, ◌++◌, length, cond, map, refl, ap, ap₂, ◌∙◌, arith}
 use Rattle.std.specs.Prelude.{Bool, Option, Some, drop, unwrap_or}
 use Rattle.std.specs.List.{AllByRecursion}
 use Rattle.std.specs.Ordering.{nat_cmp}
@@ -8,7 +8,6 @@ use Rattle.std.specs.BTreeMap.{insert_entry, is_at}
 use Rattle.std.specs.Cmp.{nat_cmp_total}
 use Rattle.wu_base.proofs.MapEntries.{lookup-insert_entry, number_itself}
 use Rattle.wu_tree.proofs.ParentPaths.{other_number}
-use Rattle.wu_view.specs.declared.Seen.{Seen}
 use Rattle.wu_export.specs.declared.Shown.{Shown}
 use Rattle.wu_export.specs.Exports.{Entry, Directory, File, Link, Text, directories_of, directory_entry, entries_of, file_entries}
 use Rattle.wu_export.specs.Exports.{files_from}

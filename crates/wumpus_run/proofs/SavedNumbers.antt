@@ -1,6 +1,6 @@
 -- The numbers of the nodes of a state that was saved are within 32 bits: the checkpoint spells no others.
-use Rattle.std.proofs.Common.{◌≡◌, ℕ, ◌^◌, ◌<◌, List, [], ◌∷◌, ◌++◌, Option, None, Some, sym, subst, arith}
-use Rattle.std.specs.List.{AllByRecursion, flat_map}
+use Rattle.std.proofs.Common.{ℕ, ◌^◌, ◌<◌, List, [], ◌∷◌, Option, None, Some, sym, subst, arith}
+use Rattle.std.specs.List.{AllByRecursion}
 use Rattle.wu_base.proofs.EachLemmas.{each_left, each_right}
 use Rattle.wu_outside.specs.Content.{Content}
 use Rattle.wu_layout.specs.Layouts.{Layout}

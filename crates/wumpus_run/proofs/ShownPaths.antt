@@ -1,7 +1,7 @@
 -- The paths of a view: each is that of a link to its file, and what stands before a `/` of it is the path of a directory.
 use Rattle.std.proofs.Common.{◌≡◌, ◌≢◌, ℕ, zero, suc, ◌+◌, ◌≤◌, Bool, true, false, not, ◌&&◌, List, [], ◌∷◌, ◌++◌, length, get_or, take}
 use Rattle.std.proofs.Common.{refl, ap, sym, ◌∙◌, subst, append-nil, append_assoc, length-append, arith, ◌⊎◌, inl, inr, ⊎_elim}
-use Rattle.std.specs.Prelude.{◌==◌, filter, map}
+use Rattle.std.specs.Prelude.{◌==◌, filter}
 use Rattle.std.specs.List.{AllByRecursion, range_with_len}
 use Rattle.std.proofs.lemmas.Bool.{and_parts}
 use Rattle.std.proofs.lemmas.Cmp.{nat_list_cmp_total}
@@ -16,7 +16,7 @@ use Rattle.wu_tree.specs.FileSystems.{FileSystem, Link, are_name_bytes, depth, g
 use Rattle.wu_tree.specs.FileSystems.{is_name_length}
 use Rattle.wu_tree.specs.Rules.{IsTree}
 use Rattle.wu_view.specs.declared.Seen.{Seen}
-use Rattle.wu_view.specs.Views.{directory_path, is_readable, joined, may, open_paths, path_of, seen_as, user_with, view_for, view_of}
+use Rattle.wu_view.specs.Views.{directory_path, joined, may, open_paths, path_of, seen_as, user_with, view_for, view_of}
 use Rattle.wu_view.proofs.LeastPaths.{link_to, not_one}
 use Rattle.wu_view.proofs.LinkPaths.{depth_below, depth_range, link_facts, path_below_is, root_depth, root_path}
 use Rattle.wu_view.proofs.ShownFiles.{has_opened, has_seen, opened_paths, seen_exact, seen_total, unsorted}

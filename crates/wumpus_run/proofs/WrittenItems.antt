@@ -1,6 +1,6 @@
 -- The script of an export is read as what was written: each of its commands is an item, which is the event of an entry.
-use Rattle.std.proofs.Common.{◌≡◌, ◌≢◌, ℕ, ◌+◌, ◌-◌, ◌*◌, ◌^◌, ◌<◌, ◌≤◌, true, false, eqb, List, [], ◌∷◌, ◌++◌, length, take, drop, map}
-use Rattle.std.proofs.Common.{Some, decimal, refl, ap, sym, ◌∙◌, append_assoc, length-append, arith}
+use Rattle.std.proofs.Common.{◌≡◌, ℕ, ◌-◌, ◌^◌, ◌<◌, ◌≤◌, true, false, eqb, List, [], ◌∷◌, ◌++◌, length, map}
+use Rattle.std.proofs.Common.{Some, decimal, refl, ap, ◌∙◌, append_assoc, length-append, arith}
 use Rattle.std.specs.Prelude.{codes}
 use Rattle.std.specs.List.{AllByRecursion}
 use Rattle.std.proofs.Math.Seq.{take-append_seam, drop-append_seam}
@@ -8,7 +8,7 @@ use Rattle.std.proofs.lemmas.Bool.{le-ltb, ne_eqb, or_parts}
 use Rattle.std.proofs.lemmas.Fmt.{length-decimal-le}
 use Rattle.wu_base.specs.declared.limits.TheConstants.{INPUT_MAX, LINE_MAX, NAME_MAX, TEXT_MAX}
 use Rattle.wu_tree.specs.declared.events.Event.TheVariants as events
-use Rattle.wu_fields.specs.Fields.{fields_of, letter_of, line_of}
+use Rattle.wu_fields.specs.Fields.{letter_of, line_of}
 use Rattle.wu_fields.specs.Numbers.{mode_of, number_of}
 use Rattle.wu_fields.proofs.FieldLemmas.{fields_of-line_of}
 use Rattle.wu_script.specs.Words.{word_of}

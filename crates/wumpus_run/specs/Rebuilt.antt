@@ -11,7 +11,7 @@ use Rattle.wu_script.specs.Said.{Said, Happens, Asks, Operates, IsRefused, SaysN
 use Rattle.wu_query.specs.States.{State}
 use Rattle.wu_query.specs.View.{view_of}
 use Rattle.wu_engine.specs.States.{first_state}
-use Rattle.wumpus_run.specs.Replies.{Met, Rules, met, output_of, reply_to, state_after}
+use Rattle.wumpus_run.specs.Replies.{Rules, met, output_of, reply_to, state_after}
 
 -- each node's number is within 32 bits, as the numbers of a script are
 abbrev pub HasShortNumbers : FileSystem → Type 0

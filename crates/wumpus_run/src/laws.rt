@@ -1,13 +1,17 @@
 //! Laws of states and of replies.
-ghost use Rattle.std.specs.Prelude.{◌≡◌, ℕ, List, ◌∷◌, map};
+ghost use Rattle.std.specs.Prelude.{◌≡◌, ℕ, List, ◌∷◌, map, Option};
 ghost use Rattle.std.specs.List.{All};
+ghost use Rattle.wu_outside.specs.Content.{Content};
 ghost use Rattle.wu_ask.specs.Questions.{Question};
 ghost use Rattle.wu_script.specs.Commands.{Operation};
 ghost use Rattle.wu_script.specs.Said.{Asks, Operates, Reading, Said, said_of};
 ghost use Rattle.wu_script.specs.Items.{items_of};
 ghost use Rattle.wu_query.specs.States.{State, IsState};
 ghost use Rattle.wu_query.specs.View.{view_of};
-ghost use Rattle.wumpus_run.specs.Replies.{last_state, met, reply_to};
+ghost use Rattle.wu_engine.specs.Opening.{HoldsImage};
+ghost use Rattle.wu_engine.specs.States.{first_state};
+ghost use Rattle.wumpus_run.specs.Replies.{Rules, last_state, met, reply_to};
+ghost use Rattle.wumpus_run.specs.Rebuilt.{AreQueriesOf, HasShortNumbers, IsRebuilt, IsToldTheSame};
 
 /// Equal views are answered alike: where a user has the same view in two states, each question of
 /// hers gets the same reply in both, whatever else there is.
@@ -34,4 +38,36 @@ pub fn no_view_depends_on_flushes_work_or_saves()
         → view_of (last_state one s saids) uid ≡ view_of (last_state other s saids) uid }
     ensures operated { (flush_at : ℕ) (operation : Operation) (s : State) (saids : List Said) (uid : ℕ)
         → view_of (last_state flush_at s (Operates operation ∷ saids)) uid ≡ view_of (last_state flush_at s saids) uid }
+{}
+
+/// An export makes a view again: from the root directory alone each item of the script that is
+/// exported to a user in a state is an event that is accepted, and then she has the view that she
+/// has in that state. A script's numbers have 32 bits, and so the state's nodes have to have such
+/// numbers; those of each state that a session meets do.
+pub fn an_export_makes_the_view_again()
+    ensures { (rules : Rules) (s : State) (uid : ℕ) → IsState s → HasShortNumbers s.tree
+        → IsRebuilt rules s uid }
+{}
+
+/// What a user is told follows from what she could copy: a session that starts from nothing, whose
+/// input is her export and then any queries of hers, is answered by `ok` for each item of the
+/// export, and then, byte for byte, by what these queries are answered in that state. Among the
+/// queries there may be lines that are refused, empty lines and comments.
+pub fn a_copy_is_answered_alike()
+    ensures { (rules : Rules) (s : State) (uid : ℕ) (queries : List ℕ) → IsState s
+        → HasShortNumbers s.tree → AreQueriesOf rules uid queries → IsToldTheSame rules s uid queries }
+{}
+
+/// No node has a number beyond 32 bits: none in the root directory alone, none in a state of which
+/// a store holds an image, and none in a state that a session from such a state on meets or leaves.
+pub fn numbers_stay_within_32_bits()
+    ensures first { HasShortNumbers first_state.tree }
+    ensures saved { (holds : Option Content) (s : State) → HoldsImage holds s
+        → HasShortNumbers s.tree }
+    ensures met { (flush_at : ℕ) (read : Reading) (s : State) (bytes : List ℕ)
+        → HasShortNumbers s.tree → All (λ m. HasShortNumbers m.0.tree)
+        (met flush_at s (map (said_of read) (items_of bytes))) }
+    ensures last { (flush_at : ℕ) (read : Reading) (s : State) (bytes : List ℕ)
+        → HasShortNumbers s.tree
+        → HasShortNumbers (last_state flush_at s (map (said_of read) (items_of bytes))).tree }
 {}
