@@ -4,11 +4,13 @@ import argparse
 import os
 import sys
 import tempfile
+import time
 from pathlib import Path
 
 SERVICE = Path(__file__).resolve().parent.parent
 sys.path.insert(0, str(SERVICE))
 
+TOLD_EVERY = 15.0  # seconds
 BUILT = SERVICE.parent / "crates" / "wumpus" / "out" / "wumpus"
 
 
@@ -36,10 +38,37 @@ class Score:
         return 1 if self.failed else 0
 
 
+class Pace:
+    """Tells how far a long test is, now and then."""
+
+    def __init__(self, name: str, count: int, what: str) -> None:
+        self.name = name
+        self.count = count
+        self.what = what
+        self.began = self.told = time.monotonic()
+
+    def spent(self) -> float:
+        """Seconds since the beginning."""
+        return time.monotonic() - self.began
+
+    def tell(self, done: int) -> None:
+        """Tells it, where nothing was told for a while."""
+        if time.monotonic() - self.told > TOLD_EVERY:
+            self.told = time.monotonic()
+            of = f"{done} of {self.count} {self.what}"
+            print(f"{self.name}: {of} after {self.spent():.0f} s", flush=True)
+
+
+def absolute(path: str) -> str:
+    """The path from the root on, for a program that is run in another folder."""
+    return os.path.abspath(path)
+
+
 def options(about: str) -> argparse.ArgumentParser:
     """Options that each test has."""
     parser = argparse.ArgumentParser(description=about)
-    parser.add_argument("--program", default=str(BUILT), help="the program wumpus")
+    add = parser.add_argument
+    add("--program", type=absolute, default=str(BUILT), help="the program wumpus")
     parser.add_argument("--seed", type=int, default=1)
     return parser
 
@@ -60,7 +89,18 @@ def needs_program(name: str, program: str) -> None:
 
 
 def folder_of_own() -> tempfile.TemporaryDirectory[str]:
-    """A new folder that everybody may pass through."""
-    folder = tempfile.TemporaryDirectory(prefix="wumpus-test-")
+    """A new folder that everybody may pass through.
+
+    Where nothing else is said, it is in `/var/tmp`: names come and go in `/tmp` all the while, and
+    the mirror looks again at what is below a directory that changed.
+    """
+    where = None if "TMPDIR" in os.environ else "/var/tmp"
+    folder = tempfile.TemporaryDirectory(prefix="wumpus-test-", dir=where)
     os.chmod(folder.name, 0o755)
     return folder
+
+
+def quick_folder() -> tempfile.TemporaryDirectory[str]:
+    """A new folder in memory where there is such a place: the end of a save waits for no disk."""
+    where = "/dev/shm" if os.access("/dev/shm", os.W_OK) else None
+    return tempfile.TemporaryDirectory(prefix="wumpus-test-", dir=where)

@@ -12,9 +12,10 @@ from collections.abc import Callable, Iterator
 from dataclasses import dataclass
 
 from .access import BadList, rights_at
-from .nodes import Node, Rights
+from .nodes import Node, Rights, identity_of
 from .script import TEXT_MAX
-from .walk import ATTEMPTS, DIRECTORY_FLAGS, Found, Torn, Way, wait_until_old
+from .walk import ATTEMPTS
+from .way import DIRECTORY_FLAGS, Found, Torn, Way, wait_until_old
 
 FILE_FLAGS = os.O_RDONLY | os.O_NOFOLLOW | os.O_NONBLOCK | os.O_NOCTTY | os.O_CLOEXEC
 LOOKED_FOR_NUL = 8192
@@ -52,10 +53,11 @@ def places_of(top: Found) -> Iterator[Place]:
 def _places_below(way: list[tuple[bytes, Found]], seen: set[int]) -> Iterator[Place]:
     directories = []
     for name, child in way[-1][1].entries.items():
-        if child.is_directory:
+        if isinstance(child, Found) and child.is_directory:
             directories.append((name, child))
-        elif child.fresh and not child.torn and child.number not in seen:
-            seen.add(child.number)
+        elif isinstance(child, Found) and not child.torn and child.number not in seen:
+            if child.links > 1:
+                seen.add(child.number)
             yield Place(way, name, child)
     for one in directories:
         yield from _places_below([*way, one], seen)
@@ -67,10 +69,14 @@ def digest_of(text: bytes) -> bytes:
 
 
 class Looker:
-    """Looks at one place after the other. `warn` is told of what is left out."""
+    """Looks at one place after the other. `warn` is told of what is left out.
+
+    A look at the way after a file was read is the one before the next file of its directory.
+    """
 
     def __init__(self, warn: Callable[[str], None]) -> None:
         self.way = Way()
+        self.last: list[int] | None = None  # what the last look at this way saw
         self.warn = warn
 
     def close(self) -> None:
@@ -83,9 +89,11 @@ class Looker:
         try:
             self._go(place.way)
             for _ in range(ATTEMPTS):
-                before = self.way.look()
+                before = self.last or self.way.look()
+                self.last = None
                 looked = self._read(place)
-                if looked is not None and self.way.look() == before:
+                self.last = self.way.look()
+                if looked is not None and self.last == before:
                     return looked
         except (Torn, Unstable):
             return None
@@ -100,6 +108,8 @@ class Looker:
         common = 0
         while common < min(len(steps), len(way)) and steps[common].found is way[common][1]:
             common += 1
+        if common < max(len(steps), len(way)):
+            self.last = None
         while len(steps) > common:
             self.way.leave()
         for name, found in way[common:]:
@@ -138,7 +148,7 @@ class Looker:
 
         One with several names must have stayed as it was: the other names aren't looked at again.
         """
-        if (status.st_dev, status.st_ino) != found.identity or not stat.S_ISREG(status.st_mode):
+        if identity_of(status) != found.identity or not stat.S_ISREG(status.st_mode):
             raise Unstable
         if found.links > 1 and status.st_ctime_ns != found.changed:
             raise Unstable

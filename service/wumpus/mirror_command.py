@@ -11,7 +11,7 @@ from types import FrameType
 
 from . import VERSION
 from .mirror import Mirror, Report, Wish, dry_run
-from .nodes import Identity
+from .nodes import Identity, identity_of
 from .progress import Progress, plain
 from .reach import CONTROL, Direct, Failed, Served, only_one
 from .state import BadState
@@ -49,11 +49,9 @@ def parser() -> argparse.ArgumentParser:
 
 def wish_of(given: argparse.Namespace, folder: Path) -> Wish:
     """What the options ask for. Raises `BadUsers`, and `OSError`."""
-    omitted: set[Identity] = set()
-    status = folder.stat()
-    omitted.add((status.st_dev, status.st_ino))
+    omitted: frozenset[Identity] = frozenset([identity_of(folder.stat())])
     excludes = tuple(os.fsencode(pattern) for pattern in given.exclude)
-    limits = Limits(excludes, given.one_file_system, frozenset(omitted))
+    limits = Limits(excludes, given.one_file_system, omitted)
     users = of_file(Path(given.users)) if given.users else of_system()
     return Wish(tuple(os.fsencode(root) for root in given.roots), limits, users)
 
@@ -80,10 +78,10 @@ def one_session(given: argparse.Namespace, folder: Path, progress: Progress) -> 
 def turns(given: argparse.Namespace, folder: Path, progress: Progress) -> None:
     """What `one_session` does, alone in its folder."""
     reach = reach_of(given, folder)
-    whole = False
+    whole = is_told = False
     try:
         mirror = Mirror(reach, folder, progress)
-        mirror.begin(given.anew)
+        mirror.begin(given.anew, given.dry_run)
         given.anew = False
         while True:
             began = time.monotonic()
@@ -93,7 +91,8 @@ def turns(given: argparse.Namespace, folder: Path, progress: Progress) -> None:
                 return
             told = one_turn(mirror, wish)
             reach.done()
-            report(told, began, given.quiet or (given.every is not None and told.batches == 0))
+            report(told, began, given.quiet or (is_told and told.batches == 0))
+            is_told = True  # of later turns only those that fed something are told
             if given.every is None:
                 break
             time.sleep(max(0.0, given.every - (time.monotonic() - began)))

@@ -42,8 +42,18 @@ def unescape(field: bytes) -> bytes | None:
 
 
 def spell(*fields: bytes | int) -> bytes:
-    """The line of these fields, with its LF: numbers in decimal, byte strings escaped."""
-    spelled = [b"%d" % field if isinstance(field, int) else escape(field) for field in fields]
+    """The line of these fields, with its LF: numbers in decimal, byte strings escaped.
+
+    A number that no line can have raises `ValueError`, so that none is refused for its form.
+    """
+    spelled = []
+    for field in fields:
+        if not isinstance(field, int):
+            spelled.append(escape(field))
+        elif 0 <= field <= NUMBER_MAX:
+            spelled.append(b"%d" % field)
+        else:
+            raise ValueError(f"{field} is no number of a line")
     return b"\t".join(spelled) + b"\n"
 
 

@@ -5,77 +5,27 @@ of each directory on the file's path: each directory is read in a *window*, betw
 all directories from `/` down to it, by name from above. A window counts where both looks see the
 same directories with the same ctimes. A directory that is seen with two different owners, modes or
 places in one walk is *torn*: it is shut, and the caller walks again.
-
-That a ctime tells of each change holds once the clock has gone on since: what changed in the last
-50 ms is waited for.
 """
 
 import fnmatch
 import os
 import re
 import stat
-import time
 from collections.abc import Callable
-from dataclasses import dataclass, field
+from dataclasses import dataclass
 
 from .access import BadList, rights_at
-from .nodes import Identity, Node, Rights
+from .mounts import file_systems_left_out
+from .nodes import Identity, Node, Rights, Tree, device_of, identity_of
 from .script import DEPTH_MAX, NAME_MAX
+from .way import DIRECTORY_FLAGS, NO_ENTRIES, Found, Seen, Step, Torn, Way, wait_until_old
 
 ATTEMPTS = 5
-YOUNG = 50_000_000  # nanoseconds in which two changes may have one ctime
-DIRECTORY_FLAGS = os.O_RDONLY | os.O_DIRECTORY | os.O_NOFOLLOW | os.O_CLOEXEC
 DEEPEST = DEPTH_MAX - 1  # a directory that moves passes through one at depth 2
-
-# File systems that hold no files of anybody, and those whose server decides who may read.
-LEFT_OUT = frozenset(
-    "autofs binfmt_misc bpf cgroup cgroup2 configfs debugfs devpts devtmpfs efivarfs fusectl "
-    "hugetlbfs mqueue nsfs proc pstore rpc_pipefs securityfs selinuxfs sysfs tracefs "
-    "9p afs ceph cifs coda fuse fuse.gvfsd-fuse fuse.sshfs fuse.portal nfs nfs4 smb3".split()
-)
-
-
-class Torn(Exception):
-    """A directory isn't where, or what, the walk saw first."""
 
 
 class BadRoot(Exception):
     """A root that can't be walked; the text says why."""
-
-
-@dataclass(slots=True)
-class Found:
-    """A file or directory that the walk saw. `known` is the node that it is known as.
-
-    For a file whose status is the known one nothing has to be looked at again, and `fresh` is
-    False. `rights` are a directory's own. `number` and `links`, the count of its names, are set
-    when the walk is done.
-    """
-
-    identity: Identity
-    is_directory: bool
-    known: Node | None
-    rights: Rights | None
-    changed: int
-    size: int
-    fresh: bool
-    torn: bool = False
-    links: int = 0
-    number: int = 0
-    entries: "dict[bytes, Found]" = field(default_factory=dict)
-
-
-_NO_ENTRIES: dict[bytes, Found] = {}  # of all files
-
-
-@dataclass(slots=True)
-class Step:
-    """A directory on the way from `/` to the one that is read, open at `descriptor`."""
-
-    descriptor: int
-    name: bytes
-    found: Found
-    changed: int
 
 
 @dataclass(frozen=True)
@@ -85,13 +35,6 @@ class Limits:
     excludes: tuple[bytes, ...] = ()
     one_file_system: bool = False
     omitted: frozenset[Identity] = frozenset()
-
-
-def wait_until_old(changed: int) -> None:
-    """Waits until a change that comes now has another ctime than this one."""
-    age = time.time_ns() - changed
-    if 0 <= age < YOUNG:
-        time.sleep((YOUNG - age) / 1e9)
 
 
 def pattern_of(patterns: tuple[bytes, ...]) -> Callable[[bytes, bytes], bool]:
@@ -112,99 +55,35 @@ def pattern_of(patterns: tuple[bytes, ...]) -> Callable[[bytes, bytes], bool]:
     return fits
 
 
-class Way:
-    """The directories from `/` to the one that is read, each held open."""
-
-    def __init__(self) -> None:
-        self.steps: list[Step] = []
-
-    def look(self) -> list[int]:
-        """The ctimes of all directories on the way, by name from above.
-
-        Raises `Torn` where one isn't the directory that was seen first, or has other rights.
-        """
-        seen = []
-        for place, step in enumerate(self.steps):
-            status = self._status(place, step)
-            if status.st_ctime_ns != step.changed:
-                self._compare(step, status)
-            wait_until_old(status.st_ctime_ns)
-            seen.append(status.st_ctime_ns)
-        return seen
-
-    def _status(self, place: int, step: Step) -> os.stat_result:
-        """The status of what has the step's name now."""
-        if place == 0:
-            return os.fstat(step.descriptor)
-        above = self.steps[place - 1].descriptor
-        try:
-            status = os.stat(step.name, dir_fd=above, follow_symlinks=False)
-        except OSError as error:
-            self._tear(step.found)
-            raise Torn from error
-        if (status.st_dev, status.st_ino) != step.found.identity:
-            self._tear(step.found)
-            raise Torn
-        return status
-
-    def _compare(self, step: Step, status: os.stat_result) -> None:
-        """Accepts a directory whose ctime is another one where its rights are the same."""
-        try:
-            rights = rights_at(step.descriptor, status)
-        except (BadList, OSError):
-            rights = None
-        if rights is None or rights != step.found.rights:
-            self._tear(step.found)
-            raise Torn
-        step.changed = status.st_ctime_ns
-
-    @staticmethod
-    def _tear(found: Found) -> None:
-        found.torn = True
-
-    def enter(self, name: bytes, found: Found, descriptor: int) -> None:
-        """Goes down to a directory that is open there."""
-        self.steps.append(Step(descriptor, name, found, found.changed))
-
-    def leave(self) -> None:
-        """Goes up again."""
-        os.close(self.steps.pop().descriptor)
-
-
-def file_systems_left_out() -> frozenset[int]:
-    """The devices of the mounts whose files aren't ordinary ones, or aren't this machine's."""
-    devices = set()
-    try:
-        with open("/proc/self/mountinfo", encoding="utf-8", errors="surrogateescape") as mounts:
-            lines = mounts.readlines()
-    except OSError:
-        return frozenset()
-    for line in lines:
-        fields = line.split(" ")
-        kind = fields[fields.index("-") + 1]
-        if kind in LEFT_OUT or kind.startswith("fuse."):
-            major, minor = fields[2].split(":")
-            devices.add(os.makedev(int(major), int(minor)))
-    return frozenset(devices)
+def _is_as_known(known: Node, status: os.stat_result) -> bool:
+    """Whether nothing of a file changed since its node was made."""
+    plain = (status.st_mode & 0o7777, status.st_uid, status.st_gid)
+    same = known.changed == status.st_ctime_ns and known.size == status.st_size
+    return same and known.rights[:3] == plain
 
 
 class Walk:
-    """One walk. `top` is `/` afterwards, and `found` all that was seen, by identity."""
+    """One walk. `top` is `/` afterwards, and `found` all that was seen, by identity.
+
+    `old` is the tree that the program has, and `known` its nodes.
+    """
 
     def __init__(
         self,
+        old: Tree,
         known: dict[Identity, Node],
         limits: Limits,
         warn: Callable[[str], None],
         tick: Callable[[int], None],
     ) -> None:
+        self.old = old
         self.known = known
         self.limits = limits
         self.warn = warn
         self.tick = tick
         self.fits = pattern_of(limits.excludes)
         self.left_out = file_systems_left_out()
-        self.found: dict[Identity, Found] = {}
+        self.found: dict[Identity, Seen] = {}
         self.way = Way()
         self.torn = False
         self.seen = 0
@@ -232,7 +111,7 @@ class Walk:
             for name in names:
                 self._down(name)
             last = self.way.steps[-1]
-            self.device = last.found.identity[0]
+            self.device = device_of(last.found.identity)
             self._read(path.rstrip(b"/"))
         except Torn:
             self.torn = True
@@ -248,9 +127,11 @@ class Walk:
         except OSError as error:
             raise BadRoot(f"{os.fsdecode(name)}: {error.strerror}, or a symbolic link") from error
         found = above.found.entries.get(name)
-        status = os.fstat(descriptor)
-        if found is None or found.identity != (status.st_dev, status.st_ino):
-            found = self.found.get((status.st_dev, status.st_ino)) or self._directory(descriptor)
+        identity = identity_of(os.fstat(descriptor))
+        if not isinstance(found, Found) or found.identity != identity:
+            found = self.found.get(identity)
+            if not isinstance(found, Found):
+                found = self._directory(descriptor)
             above.found.entries[name] = found
         self.way.enter(name, found, descriptor)
 
@@ -259,7 +140,7 @@ class Walk:
         status = os.fstat(descriptor)
         wait_until_old(status.st_ctime_ns)
         status = os.fstat(descriptor)
-        identity = (status.st_dev, status.st_ino)
+        identity = identity_of(status)
         known = self.known.get(identity)
         plain = (status.st_mode & 0o7777, status.st_uid, status.st_gid)
         if known is not None and not known.is_directory:
@@ -273,7 +154,7 @@ class Walk:
             except (BadList, OSError) as error:
                 self.warn(f"an access list that can't be read: {error}")
                 rights, torn = Rights(0, status.st_uid, status.st_gid), True
-        found = Found(identity, True, known, rights, status.st_ctime_ns, 0, True, torn)
+        found = Found(identity, True, known, rights, status.st_ctime_ns, 0, torn)
         self.found[identity] = found
         return found
 
@@ -316,10 +197,14 @@ class Walk:
         """The files of a directory, as its entries, and the names of its directories."""
         directories = []
         entries = here.found.entries
+        known = here.found.known
+        names = self.old.entries.get(known.number, {}) if known is not None else {}
+        kept = {name: name for name in names}  # a name that was known isn't kept twice
         patterned = bool(self.limits.excludes)
         with os.scandir(here.descriptor) as listing:
             for entry in listing:
                 name = os.fsencode(entry.name)
+                name = kept.get(name, name)
                 if patterned and self.fits(name, path + b"/" + name):
                     entries.pop(name, None)
                 elif len(name) > NAME_MAX:
@@ -335,48 +220,56 @@ class Walk:
                         entries[name] = self._file(status)
         return directories
 
-    def _file(self, status: os.stat_result) -> Found:
+    def _file(self, status: os.stat_result) -> Seen:
         """What is seen of a file. Where it was seen with another status, it is torn."""
-        identity = (status.st_dev, status.st_ino)
-        changed = status.st_ctime_ns
-        found = self.found.get(identity)
-        if found is not None and not found.is_directory:
-            if found.changed != changed:
-                found.torn = found.fresh = True
-                self.torn = True
-            return found
+        identity = identity_of(status)
+        seen = self.found.get(identity)
+        if seen is None or isinstance(seen, Found) and seen.is_directory:
+            seen = self._first_seen(identity, status)
+            self.found[seen.identity] = seen  # one object is both key and field
+        elif isinstance(seen, Found):
+            if seen.changed != status.st_ctime_ns:
+                seen.torn = self.torn = True
+        elif not _is_as_known(seen, status):
+            seen = self._fresh(identity, status, seen)
+            seen.torn = self.torn = True
+            self.found[identity] = seen
+        return seen
+
+    def _first_seen(self, identity: Identity, status: os.stat_result) -> Seen:
+        """The file's node, where its status is the known one."""
         known = self.known.get(identity)
-        fresh = True
-        if known is not None:
-            if known.is_directory:
-                known = None
-            elif known.changed == changed and known.size == status.st_size:
-                plain = (status.st_mode & 0o7777, status.st_uid, status.st_gid)
-                fresh = known.rights[:3] != plain
-                identity = known.identity
-        size = status.st_size
-        found = Found(identity, False, known, None, changed, size, fresh, entries=_NO_ENTRIES)
-        self.found[identity] = found
-        return found
+        if known is None or known.is_directory:
+            return self._fresh(identity, status, None)
+        return known if _is_as_known(known, status) else self._fresh(identity, status, known)
+
+    @staticmethod
+    def _fresh(identity: Identity, status: os.stat_result, known: Node | None) -> Found:
+        """A file that has to be looked at."""
+        changed, size = status.st_ctime_ns, status.st_size
+        return Found(identity, False, known, None, changed, size, entries=NO_ENTRIES)
 
     def _visit(self, here: Step, name: bytes, path: bytes) -> None:
         """Walks a directory below the one that is read."""
         if len(self.way.steps) >= DEEPEST:
             self.warn(f"{os.fsdecode(path[:200])}..: too deep, it is left out")
             return
+        if path in self.left_out.places:
+            here.found.entries.pop(name, None)
+            self.warn(f"{os.fsdecode(path)}: a file system that is left out")
+            return
         try:
             descriptor = os.open(name, DIRECTORY_FLAGS, dir_fd=here.descriptor)
         except OSError as error:
             self.warn(f"{os.fsdecode(path)}: {error.strerror}")
             return
-        status = os.fstat(descriptor)
-        identity = (status.st_dev, status.st_ino)
+        identity = identity_of(os.fstat(descriptor))
         if identity in self.limits.omitted or self._is_elsewhere(identity, path):
             os.close(descriptor)
             here.found.entries.pop(name, None)
             return
         found = here.found.entries.get(name)
-        if found is None or found.identity != identity:
+        if not isinstance(found, Found) or found.identity != identity:
             if identity in self.found:
                 self.warn(f"{os.fsdecode(path)}: in two places, it is taken once")
                 os.close(descriptor)
@@ -395,11 +288,12 @@ class Walk:
 
     def _is_elsewhere(self, identity: Identity, path: bytes) -> bool:
         """Whether a directory is on a file system that is left out."""
-        if identity[0] == self.device:
+        device = device_of(identity)
+        if device == self.device:
             return False
         if self.limits.one_file_system:
             return True
-        if identity[0] in self.left_out:
+        if device in self.left_out.devices:
             self.warn(f"{os.fsdecode(path)}: a file system that is left out")
             return True
         return False
