@@ -13,30 +13,17 @@ use Rattle.wu_vbyte.specs.declared.blocks.TheConstants.{BLOCK_LEN}
 use Rattle.wu_part.specs.declared.entries.BlockEntry.{BlockEntry}
 use Rattle.wu_part.specs.declared.entries.TermEntry.{TermEntry}
 use Rattle.wu_part.specs.Directories.{AreBlocks, IsEntry}
-use Rattle.wu_part.specs.Parts.{HoldsBlock, HoldBlocks}
+use Rattle.wu_part.specs.Parts.{HoldBlocks, LieIn}
 use Rattle.wu_part.proofs.ReadingLemmas.{count_within}
 use Rattle.wu_job.specs.Jobs.{HoldsEntry}
-use Rattle.wu_job.specs.Reading.{HasBytes, HoldsInBlock, IsNoBlock, AreNoBlocks, LieIn}
+use Rattle.wu_job.specs.Reading.{HasBytes, HoldsInBlock, IsNoBlock, AreNoBlocks}
 use Rattle.wu_base.specs.declared.troubles.Trouble.{Trouble}
 use Rattle.wu_base.specs.declared.troubles.Trouble.TheVariants.{Damaged}
-use Rattle.wu_part.proofs.ReadBackLemmas.{cut_at}
+use Rattle.wu_part.proofs.ReadBackLemmas.{IsAfter, hold_cons}
 use Rattle.wu_job.specs.Steps.{HasWholeRange, HasWholeRanges, ReadsFront, adds, block_range, block_ranges}
 use Rattle.wu_job.proofs.Fronts.{adds-more, adds-none, front_first, front_none, front_then}
 
 -- ---- one block, and those after it
-
--- the entry that is left is that of the blocks after the first one
-pub record IsAfter (entry left : TermEntry) (block : BlockEntry) : Type 0 where
-  pub blocks : entry.blocks ≡ block ∷ left.blocks
-  pub count : left.count ≡ entry.count - BLOCK_LEN
-  pub term : left.term ≡ entry.term
-
-hold_cons : (low : ℕ) (blob : List ℕ) (count : ℕ) (block : BlockEntry) (later : List BlockEntry) (addresses rest : List ℕ)
-    → length addresses ≡ min count BLOCK_LEN → length rest ≡ count - BLOCK_LEN
-    → HoldsBlock low blob block addresses → HoldBlocks low blob later rest → HoldBlocks low blob (block ∷ later) (addresses ++ rest)
-hold_cons low blob count block later addresses rest n m h g =
-    let cut = cut_at BLOCK_LEN addresses rest (omega arith) (λ l. omega arith) in
-    (subst (HoldsBlock low blob block) (sym cut.0) h, subst (HoldBlocks low blob later) (sym cut.1) g)
 
 holds_more : (o : Option (List ℕ)) (low : ℕ) (entry left : TermEntry) (block : BlockEntry) (addresses rest : List ℕ)
     → IsAfter entry left block → length addresses ≡ min entry.count BLOCK_LEN → HoldsInBlock o low block addresses

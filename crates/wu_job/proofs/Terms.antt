@@ -16,9 +16,9 @@ use Rattle.wu_part.specs.declared.entries.TermEntry.{TermEntry}
 use Rattle.wu_part.specs.Directories.{PartDirectory, IsDirectory, IsEntry, StandFrom, all_blocks}
 use Rattle.wu_part.proofs.ReadingLemmas.{stand_within}
 use Rattle.wu_job.specs.Jobs.{JobPart, HoldsEntry, HoldsTerm}
-use Rattle.wu_job.specs.Reading.{AreNoBlocks, IsFound, LieIn, StandsAt}
+use Rattle.wu_job.specs.Reading.{AreNoBlocks, IsFound, StandsAt}
 use Rattle.wu_job.specs.Steps.{HasNoTerm, HasWholeRange, HasWholeRanges, block_ranges, ranges_of, ranges_of_entries}
-use Rattle.wu_part.specs.Parts.{IsNoPart}
+use Rattle.wu_part.specs.Parts.{IsNoPart, LieIn}
 use Rattle.wu_job.proofs.Made.{list_at_entry}
 use Rattle.wu_job.proofs.Merging.{text_cmp, IsUp, less_itself}
 

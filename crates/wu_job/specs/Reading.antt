@@ -9,7 +9,7 @@ use Rattle.wu_layout.specs.Invariants.{SomeOf}
 use Rattle.wu_layout.specs.Postings.{is_live}
 use Rattle.wu_part.specs.declared.entries.BlockEntry.{BlockEntry}
 use Rattle.wu_part.specs.declared.entries.TermEntry.{TermEntry}
-use Rattle.wu_part.specs.Parts.{HoldsBlock, IsNoPart}
+use Rattle.wu_part.specs.Parts.{HoldsBlock, IsNoPart, LieIn}
 use Rattle.wu_job.specs.Jobs.{JobPart, JobState, HoldsEntry, HoldsTerm}
 use Rattle.wu_job.specs.Live.{live_below}
 use Rattle.wu_job.specs.Steps.{HasNoTerm, IsBrokenPart, IsDamagedPart}
@@ -39,10 +39,6 @@ IsNoBlock (Some blob) low count block =
     block.at + block.len ≤ length blob → (addresses : List ℕ) → length addresses ≡ count → HoldsBlock low blob block addresses → ⊥
 
 -- ---- the blocks of a term
-
--- each block ends by the end of a blob of that size
-abbrev pub LieIn : ℕ → List BlockEntry → Type 0
-LieIn size blocks = AllByRecursion (λ block. block.at + block.len ≤ size) blocks
 
 -- the blob isn't there, or ends before the end of a block, or its blocks hold no addresses as the entry says
 abbrev pub AreNoBlocks : Option (List ℕ) → ℕ → TermEntry → Type 0

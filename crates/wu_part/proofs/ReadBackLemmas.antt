@@ -34,6 +34,19 @@ cut_at (suc n) (x ∷ xs) ys l h =
     let r = cut_at n xs ys (omega arith) (λ m. h (omega arith)) in
     (ap (λ (zs : List ℕ). x ∷ zs) r.0, r.1)
 
+-- the entry that is left is that of the blocks after the first one
+pub record IsAfter (entry left : TermEntry) (block : BlockEntry) : Type 0 where
+  pub blocks : entry.blocks ≡ block ∷ left.blocks
+  pub count : left.count ≡ entry.count - BLOCK_LEN
+  pub term : left.term ≡ entry.term
+
+pub hold_cons : (low : ℕ) (blob : List ℕ) (count : ℕ) (block : BlockEntry) (later : List BlockEntry) (addresses rest : List ℕ)
+    → length addresses ≡ min count BLOCK_LEN → length rest ≡ count - BLOCK_LEN
+    → HoldsBlock low blob block addresses → HoldBlocks low blob later rest → HoldBlocks low blob (block ∷ later) (addresses ++ rest)
+hold_cons low blob count block later addresses rest n m h g =
+    let cut = cut_at BLOCK_LEN addresses rest (omega arith) (λ l. omega arith) in
+    (subst (HoldsBlock low blob block) (sym cut.0) h, subst (HoldBlocks low blob later) (sym cut.1) g)
+
 pub one_read_back : (low count : ℕ) (blob : List ℕ) (first entry left : TermEntry) (block : BlockEntry) (found addresses bytes new : List ℕ)
     → AreReadBack low blob first entry found → entry.blocks ≡ block ∷ left.blocks → count ≡ min entry.count BLOCK_LEN
     → left.count ≡ entry.count - BLOCK_LEN → bytes ≡ slice_range blob block.at (block.at + block.len)
@@ -43,13 +56,11 @@ one_read_back low count blob first entry left block found addresses bytes new r 
     let some = block_some low addresses bytes spelled in
     let long = span.number in
     let all : length addresses + length rest ≡ entry.count = omega arith in
-    let cut = cut_at BLOCK_LEN addresses rest (omega arith) (λ l. omega arith) in
     let block_held : HoldsBlock low blob block addresses = record {
       spelled = subst (SpellsBlock low addresses) is spelled;
       span = subst (λ k. AreFromTo k block.first block.last addresses) (sym long) span;
     } in
-    let held : HoldBlocks low blob (block ∷ left.blocks) (addresses ++ rest) =
-    (subst (HoldsBlock low blob block) (sym cut.0) block_held, subst (HoldBlocks low blob left.blocks) (sym cut.1) h) in
+    let held = hold_cons low blob entry.count block left.blocks addresses rest (omega arith) (omega arith) block_held h in
     let whole : HoldBlocks low blob first.blocks (found ++ (addresses ++ rest)) =
     r (addresses ++ rest) (omega (arith, length-append addresses rest))
     (subst (λ bs. HoldBlocks low blob bs (addresses ++ rest)) (sym blocks) held) in

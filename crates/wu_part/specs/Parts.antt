@@ -33,6 +33,10 @@ HoldBlocks low blob [] addresses = addresses ≡ []
 HoldBlocks low blob (block ∷ later) addresses =
     HoldsBlock low blob block (take BLOCK_LEN addresses) × HoldBlocks low blob later (drop BLOCK_LEN addresses)
 
+-- each of the blocks ends by the end of so many bytes
+abbrev pub LieIn : ℕ → List BlockEntry → Type 0
+LieIn size blocks = AllByRecursion (λ block. block.at + block.len ≤ size) blocks
+
 -- the entry is that of the term, and its blocks hold the addresses
 pub record HoldsList (low : ℕ) (blob : List ℕ) (entry : TermEntry) (list : TermList) : Type 0 where
   pub term : entry.term ≡ list.term

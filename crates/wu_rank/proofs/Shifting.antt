@@ -6,7 +6,7 @@ use Rattle.std.proofs.lemmas.Cmp.{ranked}
 use Rattle.std.proofs.lemmas.Map.Lookups.{exact_unsigned}
 use Rattle.std.proofs.lemmas.List.{length-map}
 use Rattle.std.proofs.lemmas.List.Sums.{sum_by-cons}
-use Rattle.std.specs.List.{AllByRecursion, filter}
+use Rattle.std.specs.List.{AllByRecursion, filter, sum_by}
 use Rattle.std.specs.Prelude.{count_by, nat_lt}
 use Rattle.std.specs.Ordering.{nat_cmp, ordering_then, is_lt, MatchOrdering}
 use Rattle.std.specs.declared.cmp.Ordering.{Ordering}
@@ -75,17 +75,22 @@ part_same count other start known units unit word all agrees =
     weighed_same _ _ _ _ _ _ _ _ _ _ (holders_same count other start known units word all) (length-map units (shifted start))
     (total_same start units) (agrees word) (length_same start unit)
 
+-- what the words have in the one way is what they have in the other, so the sums are the same
+sum_same : {V W : Type 0} (f : V → ℕ) (g : W → ℕ) (known : W → V) → ((word : W) → f (known word) ≡ g word) → (words : List W)
+    → sum_by f (map known words) ≡ sum_by g words
+sum_same f g known same [] = refl
+sum_same f g known same (word ∷ words) =
+    sum_by-cons f (known word) (map known words) ∙ ap₂ (λ (m n : ℕ). m + n) (same word) (sum_same f g known same words)
+    ∙ sym (sum_by-cons g word words)
+
 score_same : {V W : Type 0} (count : V → RankedUnit → ℕ) (other : W → RankedUnit → ℕ) (start : ℕ → ℕ) (known : W → V)
     (units : List RankedUnit) (unit : RankedUnit) (words : List W) → AllByRecursion (Agrees count other start known) units
     → Agrees count other start known unit
     → score count (map (shifted start) units) (map known words) (shifted start unit) ≡ score other units words unit
 unfolding score
-score_same count other start known units unit [] all agrees = refl
-score_same count other start known units unit (word ∷ words) all agrees =
-    sum_by-cons (part count (map (shifted start) units) (shifted start unit)) (known word) (map known words)
-    ∙ ap₂ (λ (m n : ℕ). m + n) (part_same count other start known units unit word all agrees)
-    (score_same count other start known units unit words all agrees)
-    ∙ sym (sum_by-cons (part other units unit) word words)
+score_same count other start known units unit words all agrees =
+    sum_same (part count (map (shifted start) units) (shifted start unit)) (part other units unit) known
+    (λ word. part_same count other start known units unit word all agrees) words
 
 holds_same : {V W : Type 0} (count : V → RankedUnit → ℕ) (other : W → RankedUnit → ℕ) (start : ℕ → ℕ) (known : W → V)
     (unit : RankedUnit) (words : List W) → Agrees count other start known unit
@@ -178,12 +183,9 @@ bound_same : {V W : Type 0} (count : V → RankedUnit → ℕ) (other : W → Ra
     → Agrees count other start known unit
     → bound count (map (shifted start) units) (map known words) (shifted start unit) ≡ bound other units words unit
 unfolding bound
-bound_same count other start known units unit [] all agrees = refl
-bound_same count other start known units unit (word ∷ words) all agrees =
-    sum_by-cons (bound_part count (map (shifted start) units) (shifted start unit)) (known word) (map known words)
-    ∙ ap₂ (λ (m n : ℕ). m + n) (bound_part_same count other start known units unit word all agrees)
-    (bound_same count other start known units unit words all agrees)
-    ∙ sym (sum_by-cons (bound_part other units unit) word words)
+bound_same count other start known units unit words all agrees =
+    sum_same (bound_part count (map (shifted start) units) (shifted start unit)) (bound_part other units unit) known
+    (λ word. bound_part_same count other start known units unit word all agrees) words
 
 score_at : (start : ℕ → ℕ) (rs : List Ranked) (i : ℕ)
     → (ranked_or_none (map (shifted_ranked start) rs) i).score ≡ (ranked_or_none rs i).score

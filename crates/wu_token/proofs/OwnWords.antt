@@ -1,25 +1,25 @@
 -- A word, taken as a run, is its own word: what is folded folds to itself, also where the cut left a part of a letter.
-use Rattle.std.proofs.Common.{◌≡◌, ◌≢◌, ℕ, zero, suc, ◌+◌, ◌-◌, ◌<◌, ◌≤◌, Bool, true, false, not, cond, nat_lt, nat_le, ◌&&◌, List, [], ◌∷◌}
-use Rattle.std.proofs.Common.{◌++◌, map, length, get_or, take, drop, filter, All, chars, encode_utf8, encode_utf8_all, IsUtf8, IsAscii}
-use Rattle.std.proofs.Common.{refl, sym, ◌∙◌, ap, ap₂, subst, inl, inr, ⊎_elim, arith, append_assoc, append-nil, true≢false, ◌⊎◌}
-use Rattle.std.specs.Char.{to_ascii_lowercase, len_utf8}
+use Rattle.std.proofs.Common.{◌≡◌, ℕ, zero, suc, ◌+◌, ◌-◌, ◌<◌, ◌≤◌, Bool, true, false, not, cond, ◌&&◌, List, [], ◌∷◌}
+use Rattle.std.proofs.Common.{◌++◌, map, length, get_or, take, drop, filter, chars, encode_utf8, encode_utf8_all, IsUtf8, IsAscii}
+use Rattle.std.proofs.Common.{refl, sym, ◌∙◌, ap, ap₂, subst, inl, inr, arith, append_assoc, append-nil, true≢false, ◌⊎◌}
+use Rattle.std.specs.Char.{to_ascii_lowercase}
 use Rattle.std.specs.Str.{is_utf8, all_scalars}
 use Rattle.std.specs.Str.Lossy.{valid_len_up_to, utf8_valid_len}
 use Rattle.std.specs.List.{AllByRecursion, slice_split, onto_first, list_all}
 use Rattle.std.proofs.lemmas.Bool.{cases_Bool, cases_lt, cond-true, cond-false, and_parts}
 use Rattle.std.proofs.lemmas.Bool.Decides.{nat_tests}
-use Rattle.std.proofs.lemmas.List.{length-map, length-take, length-append, length-drop, take-append-drop, take_all, take_at, take-take}
-use Rattle.std.proofs.lemmas.List.{take-map, take-append-le, nil_from_length, get_or_default}
+use Rattle.std.proofs.lemmas.List.{length-map, length-take, length-append, length-drop, take-append-drop, take-take}
+use Rattle.std.proofs.lemmas.List.{take-map, take-append-le, get_or_default}
 use Rattle.std.proofs.lemmas.List.Elements.{recursion_from_All, All-from_recursion}
 use Rattle.std.proofs.lemmas.List.Splits.{slice_split_none}
-use Rattle.std.proofs.lemmas.Str.{IsUtf8-from_is_utf8, is_utf8-from_IsUtf8, IsUtf8-append, IsUtf8-nil, IsUtf8-from_ascii, IsUtf8-encode}
+use Rattle.std.proofs.lemmas.Str.{IsUtf8-from_is_utf8, is_utf8-from_IsUtf8, IsUtf8-append, IsUtf8-nil, IsUtf8-from_ascii}
 use Rattle.std.proofs.lemmas.Str.{encodes-chars, scalars-chars, chars-encodes, utf8_valid_len_le, length-encode, len_utf8_bounds}
 use Rattle.std.proofs.lemmas.Str.{len_utf8_ascii, encode_ascii, inside_one, encode_same, length-le-encodes}
-use Rattle.std.proofs.Math.Seq.{take-append-add, drop-append-add, take-append_seam}
+use Rattle.std.proofs.Math.Seq.{take-append-add, take-append_seam}
 use Rattle.ucd_table.proofs.RangedFacts.{values_ok, Stepped-at_values}
 use Rattle.ucd_table.proofs.Computing.{tables}
 use Rattle.ucd_case.specs.CaseFolding.{full_folding, or_itself, full_fold}
-use Rattle.ucd_case.proofs.CaseFoldingLemmas.{full_folding_stepped, full_fold-ascii}
+use Rattle.ucd_case.proofs.CaseFoldingLemmas.{full_folding_stepped}
 use Rattle.caseless.specs.Caseless.{default_case_fold}
 use Rattle.caseless.proofs.CaselessLemmas.{default_case_fold-nil, default_case_fold-cons, default_case_fold_idem}
 use Rattle.wu_base.specs.declared.limits.TheConstants.{WORD_MAX}

@@ -1,19 +1,19 @@
 -- The folding of a run, from its front on.
 use Rattle.std.proofs.Common.{◌≡◌, ℕ, zero, suc, ◌+◌, ◌-◌, ◌<◌, ◌≤◌, Bool, true, false, cond, List, [], ◌∷◌, ◌++◌, map, length, take, drop}
-use Rattle.std.proofs.Common.{All, chars, encode_utf8, encode_utf8_all, IsUtf8, IsAscii, refl, sym, ◌∙◌, ap, ap₂, subst, inl, inr, ⊎_elim}
-use Rattle.std.proofs.Common.{arith, append_assoc, append-nil, min, ◌⊎◌}
+use Rattle.std.proofs.Common.{All, chars, encode_utf8, encode_utf8_all, IsUtf8, IsAscii, refl, sym, ◌∙◌, ap, ap₂, subst, inl, inr}
+use Rattle.std.proofs.Common.{arith, append_assoc, append-nil, min, get_or, set}
 use Rattle.std.specs.Char.{to_ascii_lowercase}
 use Rattle.std.specs.Str.{is_utf8}
 use Rattle.std.specs.Str.Lossy.{valid_len_up_to, utf8_valid_len}
-use Rattle.std.proofs.lemmas.Bool.{cases_Bool, cases_lt, cond-true, cond-false}
+use Rattle.std.proofs.lemmas.Bool.{cases_Bool, cases_lt, cond-true}
 use Rattle.std.proofs.lemmas.Bool.Decides.{nat_tests}
 use borrow.Rule.Slice.PartMut.{put_mid}
 use Rattle.std.proofs.lemmas.Slice.{take-put_mid}
 use Rattle.std.proofs.lemmas.List.{length-map, length-take, length-drop, length-append, take-append-drop, take_all, take_at}
-use Rattle.std.proofs.lemmas.List.{nil_from_length}
-use Rattle.std.proofs.lemmas.Str.{IsUtf8-from_is_utf8, is_utf8-from_IsUtf8, IsUtf8-append, IsUtf8-nil, IsUtf8-from_ascii, chars-append}
+use Rattle.std.proofs.lemmas.List.{map_more, nil_from_length, take_more_set}
+use Rattle.std.proofs.lemmas.Str.{IsUtf8-from_is_utf8, is_utf8-from_IsUtf8, IsUtf8-append, IsUtf8-from_ascii, chars-append}
 use Rattle.std.proofs.lemmas.Str.{chars-nil, chars-IsAscii, utf8_valid_len_le, encodes-append, encodes-IsAscii, IsUtf8-past_char}
-use Rattle.std.proofs.Math.Seq.{take-append-add, drop-append-add, take-append_seam}
+use Rattle.std.proofs.Math.Seq.{take-append-add, drop-append-add}
 use Rattle.caseless.specs.Caseless.{default_case_fold}
 use Rattle.caseless.proofs.CaselessLemmas.{default_case_fold-nil, default_case_fold-append, default_case_fold-ascii, All-chars}
 use Rattle.wu_base.specs.declared.limits.TheConstants.{WORD_MAX}
@@ -127,17 +127,12 @@ word_of-ascii run n e ascii =
       | inr long ↦ sym (whole ∙ take_at (map to_ascii_lowercase a) (folded_run b) WORD_MAX (omega arith))
     ]
 
--- the run's first bytes are put at the front, and then lowered there
-pub word_of-copied : (run copied lowered more rest : List ℕ) (n : ℕ) → n ≡ min (length run) WORD_MAX
-    → copied ≡ take n run → IsAscii (take n run) → lowered ≡ map to_ascii_lowercase (take n (copied ++ more))
-    → take n (lowered ++ rest) ≡ word_of run
-word_of-copied run copied lowered more rest n e copies ascii lowers =
-    let short : length (take n run) ≡ n = length-take n run ∙ omega arith in
-    let front : take n (copied ++ more) ≡ take n run =
-    ap (λ c. take n (c ++ more)) copies ∙ ap (λ k. take k (take n run ++ more)) (sym short) ∙ take-append_seam (take n run) more in
-    let same : lowered ≡ map to_ascii_lowercase (take n run) = lowers ∙ ap (map to_ascii_lowercase) front in
-    let long : length lowered ≡ n = ap length same ∙ length-map (take n run) to_ascii_lowercase ∙ short in
-    ap (λ k. take k (lowered ++ rest)) (sym long) ∙ take-append_seam lowered rest ∙ same ∙ word_of-ascii run n e ascii
+-- one byte more is lowered
+pub lowered_more : (run letters : List ℕ) (i letter : ℕ) → i < length run → i < length letters
+    → letter ≡ to_ascii_lowercase (get_or run i 0) → take i letters ≡ map to_ascii_lowercase (take i run)
+    → take (i + 1) (set letters i letter) ≡ map to_ascii_lowercase (take (i + 1) run)
+lowered_more run letters i letter l m e same =
+    take_more_set letters i letter m ∙ ap₂ (λ front b. front ++ b ∷ []) same e ∙ sym (map_more to_ascii_lowercase run i 0 l)
 
 -- ---- what is appended where there is room
 pub take-twice : (n : ℕ) (a b : List ℕ) → take n (take n a ++ b) ≡ take n (a ++ b)

@@ -1,7 +1,7 @@
 -- The words of a byte string: its maximal runs of ASCII letters, ASCII digits and bytes of 0x80 and above, each without
 -- differences of case and cut to WORD_MAX bytes.
--- Case goes by full default case folding: toCasefold, R4 of section 3.13 of The Unicode Standard, over the text at the front
--- of a run. Bytes that are not UTF-8 have no letters but those of ASCII. Which bytes make words is this project's own choice.
+-- Case goes by full default case folding: toCasefold of the default case algorithms of The Unicode Standard, over the text
+-- at the front of a run. Bytes that are not UTF-8 have no letters but those of ASCII. Which bytes make words is this project's own choice.
 use Rattle.std.specs.Prelude.{◌≡◌, ℕ, ◌≤◌, Bool, List, [], ◌∷◌, ◌++◌, ◌||◌, ◌==◌, nat_le, not, filter, map, take, drop, length, All, chars}
 use Rattle.std.specs.Prelude.{encode_utf8_all}
 use Rattle.std.specs.List.{slice_split}

@@ -32,13 +32,13 @@ impl Word {
         ensures { result ≡ word_of run.now }
     {
         let len = run.len().min(WORD_MAX);
-        let front = &run[..len];
-        if !front.is_ascii() {
-            return Word::by_folding(run);
-        }
         let mut room = [0; WORD_MAX];
-        room[..len].copy_from_slice(front);
-        room[..len].make_ascii_lowercase();
+        for i in 0..len {
+            if !run[i].is_ascii() {
+                return Word::by_folding(run);
+            }
+            room[i] = run[i].to_ascii_lowercase();
+        }
         Word { room, len }
     }
 

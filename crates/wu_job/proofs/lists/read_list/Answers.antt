@@ -6,7 +6,8 @@ use Rattle.wu_vbyte.specs.declared.blocks.TheConstants.{BLOCK_LEN}
 use Rattle.wu_job.specs.Jobs.{HoldsEntry}
 use Rattle.wu_job.specs.Reading.{AreNoBlocks, HoldsInBlock, IsNoBlock}
 use Rattle.wu_job.specs.Steps.{HasWholeRange, HasWholeRanges, block_range, block_ranges}
-use Rattle.wu_job.proofs.Blocks.{AreRead, AreWholeTo, IsAfter, IsReadTo, ranges_all, ranges_failed, ranges_more, ranges_none}
+use Rattle.wu_part.proofs.ReadBackLemmas.{IsAfter}
+use Rattle.wu_job.proofs.Blocks.{AreRead, AreWholeTo, IsReadTo, ranges_all, ranges_failed, ranges_more, ranges_none}
 use Rattle.wu_job.proofs.Blocks.{ranges_stopped, read_all, read_broken, read_more, read_none, some_left, to_all, to_more, to_none}
 use Rattle.wu_job.proofs.Blocks.{whole_all, whole_more}
 use Rattle.wu_job.proofs.Fronts.{cause_after, if_both, no_memory}
