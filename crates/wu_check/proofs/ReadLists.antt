@@ -12,10 +12,10 @@ use Rattle.wu_vbyte.specs.declared.blocks.TheConstants.{BLOCK_LEN}
 use Rattle.wu_part.specs.declared.entries.BlockEntry.{BlockEntry}
 use Rattle.wu_part.specs.declared.entries.TermEntry.{TermEntry}
 use Rattle.wu_part.specs.Directories.{AreBlocks, IsEntry}
-use Rattle.wu_part.specs.Parts.{HoldsBlock, HoldBlocks}
+use Rattle.wu_part.specs.Parts.{HoldsBlock, HoldBlocks, LieIn}
 use Rattle.wu_part.proofs.ReadingLemmas.{count_within}
-use Rattle.wu_part.proofs.ReadBackLemmas.{cut_at}
-use Rattle.wu_check.specs.Indexing.{HoldsAddresses, LieIn}
+use Rattle.wu_part.proofs.ReadBackLemmas.{IsAfter, hold_cons}
+use Rattle.wu_check.specs.Indexing.{HoldsAddresses}
 
 gaps_ascend : (before last : ℕ) (later bytes : List ℕ) → SpellsGaps before later bytes → last_or (Some before) later ≡ Some last
     → AscendBetween (before + 1) (last + 1) later
@@ -32,18 +32,6 @@ spelled_ascend low count first last (address ∷ later) code s a =
 block_ascends : (low : ℕ) (bytes : List ℕ) (block : BlockEntry) (addresses : List ℕ) → HoldsBlock low bytes block addresses
     → AscendBetween block.first (block.last + 1) addresses
 block_ascends low bytes block addresses h = spelled_ascend low (length addresses) block.first block.last addresses _ h.spelled h.span
-
--- the entry that is left is that of the blocks after the first one
-pub record IsAfter (entry left : TermEntry) (block : BlockEntry) : Type 0 where
-  pub blocks : entry.blocks ≡ block ∷ left.blocks
-  pub count : left.count ≡ entry.count - BLOCK_LEN
-
-hold_cons : (low : ℕ) (bytes : List ℕ) (count : ℕ) (block : BlockEntry) (later : List BlockEntry) (addresses rest : List ℕ)
-    → length addresses ≡ min count BLOCK_LEN → length rest ≡ count - BLOCK_LEN
-    → HoldsBlock low bytes block addresses → HoldBlocks low bytes later rest → HoldBlocks low bytes (block ∷ later) (addresses ++ rest)
-hold_cons low bytes count block later addresses rest n m h g =
-    let cut = cut_at BLOCK_LEN addresses rest (omega arith) (λ l. omega arith) in
-    (subst (HoldsBlock low bytes block) (sym cut.0) h, subst (HoldBlocks low bytes later) (sym cut.1) g)
 
 holds_more : (low : ℕ) (bytes : List ℕ) (entry left : TermEntry) (block : BlockEntry) (addresses rest : List ℕ)
     → IsAfter entry left block → length addresses ≡ min entry.count BLOCK_LEN → HoldsBlock low bytes block addresses

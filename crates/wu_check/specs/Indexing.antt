@@ -11,10 +11,6 @@ use Rattle.wu_part.specs.declared.entries.TermEntry.{TermEntry}
 use Rattle.wu_check.specs.declared.indexing.PartIndex.{PartIndex}
 use Rattle.wu_check.specs.Numbering.{AreNumbers}
 
--- each of the blocks ends by the end of so many bytes
-abbrev pub LieIn : ℕ → List BlockEntry → Type 0
-LieIn size blocks = AllByRecursion (λ block. block.at + block.len ≤ size) blocks
-
 -- the addresses are as many as the entry's, and its blocks hold them
 abbrev pub HoldsAddresses : ℕ → List ℕ → TermEntry → List ℕ → Type 0
 HoldsAddresses low bytes entry addresses = (entry.count ≡ length addresses) × HoldBlocks low bytes entry.blocks addresses

@@ -2,8 +2,8 @@
 ghost use Rattle.std.specs.Prelude.{◌≡◌, ℕ, List, ◌+◌, ◌≤◌, IfNone, IfOk, IfSome, length, slice_range};
 ghost use Rattle.wu_layout.specs.Ascending.{AscendBetween};
 ghost use Rattle.wu_part.specs.Directories.{IsEntry};
-ghost use Rattle.wu_part.specs.Parts.{HoldsBlock};
-ghost use Rattle.wu_check.specs.Indexing.{HoldsAddresses, LieIn};
+ghost use Rattle.wu_part.specs.Parts.{HoldsBlock, LieIn};
+ghost use Rattle.wu_check.specs.Indexing.{HoldsAddresses};
 
 use std::alloc::Global;
 use wu_base::{Bytes, NoMemory};

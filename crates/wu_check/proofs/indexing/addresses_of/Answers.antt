@@ -1,7 +1,8 @@
 use Rattle.std.proofs.Common.{◌≡◌, ◌++◌, ◌∷◌, ◌-◌, ◌+◌, ◌≤◌, ◌∙◌, [], List, ℕ, length, min, ap, sym, subst, rules}
 use Rattle.std.specs.Prelude.{IfNone}
 use Rattle.wu_vbyte.specs.declared.blocks.TheConstants.{BLOCK_LEN}
-use Rattle.wu_check.proofs.ReadLists.{AreRead, IsAfter, read_all, read_broken, read_more, read_none}
+use Rattle.wu_part.proofs.ReadBackLemmas.{IsAfter}
+use Rattle.wu_check.proofs.ReadLists.{AreRead, read_all, read_broken, read_more, read_none}
 use Rattle.wu_part.specs.Parts.{HoldsBlock}
 use Rattle.wu_check.proofs.indexing.addresses_of.Goals as goal
 
@@ -21,7 +22,7 @@ loop-block-preserved c =
     let block = c.in-Some.block in
     let found = c.loop-block.found.items in
     let addresses = c.in-Some-2.addresses.items in
-    let is : IsAfter entry left block = record { blocks = search rules; count = search rules } in
+    let is : IsAfter entry left block = record { blocks = search rules; count = search rules; term = search rules } in
     let few : c.in-Some.count ≡ min entry.count BLOCK_LEN = search rules in
     let n : length addresses ≡ c.in-Some.count = rw c.in-Some-2.is at c.in_ok-addresses.ensures.number in
     let held : HoldsBlock c.low-low.result bytes block addresses = rw c.in-Some-2.is at c.in_ok-addresses.ensures.held in
@@ -38,7 +39,7 @@ returns-in_default-2-clause-none c =
     let entry = c.loop-block.entry in
     let left = c.next_block.new.self in
     let block = c.in-Some.block in
-    let is : IsAfter entry left block = record { blocks = search rules; count = search rules } in
+    let is : IsAfter entry left block = record { blocks = search rules; count = search rules; term = search rules } in
     let few : c.in-Some.count ≡ min entry.count BLOCK_LEN = search rules in
     let none : IfNone c.in_ok-addresses.field-0 (block.at + block.len ≤ length bytes
     → (addresses : List ℕ) → length addresses ≡ c.in-Some.count → HoldsBlock c.low-low.result bytes block addresses → ⊥) =
