@@ -1,5 +1,10 @@
 pub mod ComparedTexts
 pub mod ComparedTokens
+pub mod DistinctNumbers
+pub mod IndexedParts
 pub mod NumberLemmas
-pub mod ReadLists
+pub mod NumberedLists
 pub mod PartDirectories
+pub mod PartLists
+pub mod Placing
+pub mod ReadLists

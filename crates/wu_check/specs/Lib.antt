@@ -5,6 +5,13 @@ pub mod Terms
 -- blobs that are read whole, and lists that are read from a part's bytes
 pub mod Reading
 pub mod Indexing
--- the lists of a part side by side by address, and tokens that are compared with them
+-- the lists of a part side by side by address, at the places of the addresses of some ranges
+pub mod Places
 pub mod Numbering
+-- ---- What only private functions and proofs need
+
+-- ranges as they are searched, and lists as far as they are numbered
+pub mod Placed
+pub mod Numbered
+-- tokens that are compared with numbers
 pub mod Comparing
