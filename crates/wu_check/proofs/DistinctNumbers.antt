@@ -1,5 +1,5 @@
 -- Numbers that are distinct: those that pass a test and the others, and numbers that are sorted.
-use Rattle.std.proofs.Common.{◌≡◌, ◌⊎◌, ⊎_elim, inl, inr, ℕ, ◌+◌, ◌<◌, ◌≤◌, nat_lt, Bool, true, false, not, List, [], ◌∷◌, ◌++◌, length, get_or}
+use Rattle.std.proofs.Common.{◌≡◌, ⊎_elim, inl, inr, ℕ, nat_lt, Bool, true, false, not, List, [], ◌∷◌, ◌++◌, get_or}
 use Rattle.std.proofs.Common.{filter, refl, ap, sym, ◌∙◌, subst, arith, append-nil, cond}
 use Rattle.std.specs.Prelude.{eqb, IsPermutation, MatchBool}
 use Rattle.std.specs.List.{AllByRecursion, IsAllAdjacentAnswer, IsDistinct}

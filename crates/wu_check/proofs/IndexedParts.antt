@@ -7,10 +7,10 @@ use Rattle.wu_base.specs.declared.addresses.Range.{Range}
 use Rattle.wu_base.specs.declared.addresses.TermList.{TermList}
 use Rattle.wu_part.specs.declared.entries.TermEntry.{TermEntry}
 use Rattle.wu_part.specs.Directories.{PartDirectory, IsEntry, SpellsDirectory}
-use Rattle.wu_part.specs.Parts.{IsBroken, IsDirectoryOf, IsNoPart, IsRecorded}
+use Rattle.wu_part.specs.Parts.{IsBroken, IsDirectoryOf, IsNoPart, IsRecorded, LieIn}
 use Rattle.wu_check.specs.declared.indexing.PartIndex.{PartIndex}
 use Rattle.wu_check.specs.declared.numbering.Numbering.{Numbering}
-use Rattle.wu_check.specs.Indexing.{AreIndexed, HasListsOf, HoldsAddresses, IsIndexOf, LieIn}
+use Rattle.wu_check.specs.Indexing.{AreIndexed, HasListsOf, HoldsAddresses, IsIndexOf}
 use Rattle.wu_check.specs.Numbered.{AreNumbered, addresses_in, with_list}
 use Rattle.wu_check.proofs.PartLists.{AllLieIn, AreHeld, all_lie, broken_entry, broken_lists, broken_part, held_more, none_held, whole_part}
 

@@ -1,5 +1,5 @@
 -- Lists that are numbered one after another, an address at a time.
-use Rattle.std.proofs.Common.{◌≡◌, ◌≢◌, inl, ℕ, zero, suc, ◌+◌, ◌<◌, ◌≤◌, ◌==◌, Bool, true, false, ◌||◌, not, List, [], ◌∷◌, ◌++◌}
+use Rattle.std.proofs.Common.{◌≡◌, ◌≢◌, inl, ℕ, zero, suc, ◌+◌, ◌<◌, ◌==◌, Bool, true, false, ◌||◌, not, List, [], ◌∷◌, ◌++◌}
 use Rattle.std.proofs.Common.{length, map, take, drop, get_or, filter, refl, ap, sym, ◌∙◌, subst, arith, append_assoc, append-nil, replicate, set}
 use Rattle.std.specs.Prelude.{Option, None, Some, IfSome, eqb, is_some}
 use Rattle.std.specs.List.{IsDistinct}

@@ -7,9 +7,9 @@ use Rattle.wu_base.specs.declared.addresses.TermList.{TermList}
 use Rattle.wu_part.specs.declared.entries.BlockEntry.{BlockEntry}
 use Rattle.wu_part.specs.declared.entries.TermEntry.{TermEntry}
 use Rattle.wu_part.specs.Directories.{PartDirectory, SpellsDirectory, StandFrom, all_blocks}
-use Rattle.wu_part.specs.Parts.{HoldsList, IsBroken, IsDirectoryOf, IsNoPart, SpellsPart}
+use Rattle.wu_part.specs.Parts.{HoldsList, IsBroken, IsDirectoryOf, IsNoPart, LieIn, SpellsPart}
 use Rattle.wu_part.proofs.LawLemmas.{one_directory, same_lists}
-use Rattle.wu_check.specs.Indexing.{HoldsAddresses, LieIn}
+use Rattle.wu_check.specs.Indexing.{HoldsAddresses}
 use Rattle.wu_check.specs.Numbered.{addresses_in, with_list}
 use Rattle.wu_check.proofs.NumberLemmas.{distinct_left}
 

@@ -1,6 +1,6 @@
 -- Places of addresses in ranges: each is below their number, is that of one address, and is found by a search.
-use Rattle.std.proofs.Common.{◌≡◌, ◌⊎◌, inl, inr, ⊎_elim, ℕ, zero, suc, ◌+◌, ◌-◌, ◌<◌, ◌≤◌, nat_le, Bool, true, false, List, [], ◌∷◌, ◌++◌}
-use Rattle.std.proofs.Common.{length, map, take, drop, get_or, leb, refl, ap, sym, ◌∙◌, subst, arith, append_assoc}
+use Rattle.std.proofs.Common.{◌≡◌, ◌⊎◌, inl, inr, ⊎_elim, ℕ, zero, suc, ◌+◌, ◌-◌, ◌<◌, ◌≤◌, nat_le, true, false, List, [], ◌∷◌, ◌++◌}
+use Rattle.std.proofs.Common.{length, take, drop, get_or, leb, refl, ap, sym, ◌∙◌, subst, arith, append_assoc}
 use Rattle.std.specs.Prelude.{Option, None, Some, option_map}
 use Rattle.std.specs.List.{AllByRecursion}
 use Rattle.std.specs.List.Sorted.{IsNonDecreasingBy, IsPartitionPoint}
@@ -12,7 +12,7 @@ use Rattle.std.proofs.Math.Seq.{drop-cons}
 use Rattle.wu_base.specs.declared.addresses.Range.{Range}
 use Rattle.wu_base.specs.Ranges.{AreApart, is_in}
 use Rattle.wu_base.proofs.Parting.{parts_at}
-use Rattle.wu_base.proofs.Members.{Has, Has-append_right, all_has}
+use Rattle.wu_base.proofs.Members.{Has-append_right, all_has}
 use Rattle.wu_check.specs.declared.places.PlacedRange.{PlacedRange}
 use Rattle.wu_check.specs.Placed.{ArePlaced, FirstHasFewBefore, PartAt, place_in, placed_from, ranges_of}
 use Rattle.wu_check.specs.Places.{place_of, total_of}

@@ -1,21 +1,15 @@
 -- What is read of a part whose texts are compared: its terms, and at the place of each address of
 -- the texts' ranges the number of the term that stands there.
-use Rattle.std.specs.Prelude.{◌≡◌, ℕ, ◌+◌, ◌≤◌, List, length, map}
-use Rattle.std.specs.List.{AllByRecursion}
+use Rattle.std.specs.Prelude.{◌≡◌, ℕ, List, length, map}
 use Rattle.wu_base.specs.declared.addresses.PartRec.{PartRec}
 use Rattle.wu_base.specs.declared.addresses.Range.{Range}
 use Rattle.wu_base.specs.declared.addresses.TermList.{TermList}
 use Rattle.wu_part.specs.Directories.{PartDirectory}
 use Rattle.wu_part.specs.Parts.{HoldBlocks, IsRecorded, SpellsPart}
-use Rattle.wu_part.specs.declared.entries.BlockEntry.{BlockEntry}
 use Rattle.wu_part.specs.declared.entries.TermEntry.{TermEntry}
 use Rattle.wu_check.specs.declared.indexing.PartIndex.{PartIndex}
 use Rattle.wu_check.specs.Numbering.{AreNumbers}
 use Rattle.wu_check.specs.Places.{total_of}
-
--- each of the blocks ends by the end of so many bytes
-abbrev pub LieIn : ℕ → List BlockEntry → Type 0
-LieIn size blocks = AllByRecursion (λ block. block.at + block.len ≤ size) blocks
 
 -- the addresses are as many as the entry's, and its blocks hold them
 abbrev pub HoldsAddresses : ℕ → List ℕ → TermEntry → List ℕ → Type 0

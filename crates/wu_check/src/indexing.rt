@@ -4,8 +4,8 @@ ghost use Rattle.std.specs.List.{AllByRecursion};
 ghost use Rattle.wu_base.specs.Ranges.{AreApart};
 ghost use Rattle.wu_layout.specs.Ascending.{AscendBetween};
 ghost use Rattle.wu_part.specs.Directories.{IsEntry};
-ghost use Rattle.wu_part.specs.Parts.{HoldsBlock, IsBroken, IsDirectoryOf, IsNoPart};
-ghost use Rattle.wu_check.specs.Indexing.{HasListsOf, HoldsAddresses, IsIndexOf, LieIn};
+ghost use Rattle.wu_part.specs.Parts.{HoldsBlock, IsBroken, IsDirectoryOf, IsNoPart, LieIn};
+ghost use Rattle.wu_check.specs.Indexing.{HasListsOf, HoldsAddresses, IsIndexOf};
 
 use crate::directories::directory_in;
 use crate::numbering::Numbering;

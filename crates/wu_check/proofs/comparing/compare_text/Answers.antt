@@ -1,4 +1,4 @@
-use Rattle.std.proofs.Common.{◌≡◌, ◌<◌, ◌≤◌, ℕ, ◌+◌, ◌-◌, ◌∙◌, List, length, length-drop, min, take, take_all, drop, ap, arith}
+use Rattle.std.proofs.Common.{◌≡◌, ◌<◌, ℕ, ◌-◌, ◌∙◌, List, length, length-drop, take, take_all, drop, ap, arith}
 use Rattle.wu_token.specs.Tokens.{tokens_of}
 use Rattle.wu_token.proofs.PlacesLemmas.{tokens_of-pieces}
 use Rattle.wu_check.specs.Comparing.{are_numbers_of}

@@ -1,4 +1,4 @@
-use Rattle.std.specs.Prelude.{Option, Result, Ok, Err, IfOk}
+use Rattle.std.specs.Prelude.{Result, Ok, Err, IfOk}
 use Rattle.wu_check.proofs.IndexedParts.{indexed_part, unindexed_part}
 use Rattle.wu_check.proofs.indexing.index_part.Goals as goal
 

@@ -1,8 +1,5 @@
-use Rattle.std.proofs.Common.{◌+◌, ◌<◌, ◌≤◌, leb, length, List, sym, subst, rules, arith, take_all}
-use Rattle.std.specs.List.{AllByRecursion}
-use Rattle.std.specs.List.Sorted.{IsNonDecreasingBy, IsPartitionPoint}
-use Rattle.std.proofs.lemmas.Bool.{leb-true, leb-false}
-use Rattle.std.proofs.lemmas.List.{drop_all}
+use Rattle.std.proofs.Common.{leb, sym, subst, rules}
+use Rattle.std.specs.List.Sorted.{IsNonDecreasingBy}
 use Rattle.std.proofs.lemmas.List.Sorted.{IsPartitionPoint-from_clause, IsPartitionedBy-leb}
 use Rattle.wu_check.specs.declared.places.PlacedRange.{PlacedRange}
 use Rattle.wu_check.specs.Placed.{ranges_of}

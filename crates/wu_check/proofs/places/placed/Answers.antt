@@ -3,7 +3,6 @@ use Rattle.std.proofs.lemmas.List.{drop_all}
 use Rattle.std.proofs.lemmas.List.Sums.{sum_by_more_le}
 use Rattle.wu_base.specs.declared.addresses.Range.{Range}
 use Rattle.wu_base.specs.declared.limits.TheConstants.{ADDRESSES_MAX}
-use Rattle.wu_check.specs.declared.places.PlacedRange.{PlacedRange}
 use Rattle.wu_check.specs.Placed.{placed_from}
 use Rattle.wu_check.proofs.Placing.{are_placed, total_within}
 use Rattle.wu_check.proofs.places.placed.Goals as goal

@@ -1,7 +1,7 @@
-use Rattle.std.proofs.Common.{◌≡◌, ℕ, List, not, ap, sym, subst, ◌∙◌, filter}
-use Rattle.std.specs.Prelude.{eqb, IsPermutation}
+use Rattle.std.proofs.Common.{ℕ, List, not, ap, sym, subst, ◌∙◌, filter}
+use Rattle.std.specs.Prelude.{eqb}
 use Rattle.std.specs.List.{IsDistinct}
-use Rattle.std.specs.List.Sorted.{IsNonDecreasing, IsStrictlyIncreasing}
+use Rattle.std.specs.List.Sorted.{IsStrictlyIncreasing}
 use Rattle.std.proofs.lemmas.List.Sorted.{IsNonDecreasingBy-from_sort}
 use Rattle.wu_check.specs.Numbered.{addresses_in, has_place}
 use Rattle.wu_check.specs.Places.{total_of}
