@@ -1,5 +1,7 @@
 -- ---- What a reader of the contracts trusts
 
+-- what is wrong in a store, and what is counted of one in which nothing is
+pub mod Wrong
 -- which terms the lists of a part have at which addresses
 pub mod Terms
 -- blobs that are read whole, and lists that are read from a part's bytes
@@ -15,3 +17,7 @@ pub mod Placed
 pub mod Numbered
 -- tokens that are compared with numbers
 pub mod Comparing
+-- what is found of a store, piece by piece
+pub mod Saved
+pub mod Walking
+pub mod Checking
