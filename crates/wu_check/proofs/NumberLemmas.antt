@@ -1,19 +1,19 @@
 -- The numbers of lists at addresses: as a list is added, and what the terms of these numbers are.
 use Rattle.std.proofs.Common.{◌≡◌, ◌⊎◌, inl, inr, ℕ, zero, suc, ◌+◌, ◌-◌, ◌<◌, ◌≤◌, ◌==◌, Bool, true, false, ◌&&◌, ◌||◌, List, [], ◌∷◌, ◌++◌, length, refl, ap}
-use Rattle.std.proofs.Common.{sym, ◌∙◌, subst, map, get_or, drop, arith, cond}
+use Rattle.std.proofs.Common.{sym, ◌∙◌, subst, map, get_or, arith, append_assoc}
 use Rattle.std.specs.Prelude.{if◌then◌else◌, nat_eq, nat_lt, eqb, Contains}
 use Rattle.std.specs.Cmp.Lexicographic.{pointwise, same_text}
 use Rattle.std.proofs.lemmas.Cmp.{nat_list_eq_equiv}
 use Rattle.std.proofs.lemmas.Bool.Decides.{nat_tests}
-use Rattle.std.proofs.lemmas.List.{get_or-drop}
-use Rattle.std.specs.List.{AllByRecursion, IsDistinct, flat_map, list_any}
+use Rattle.std.specs.List.{IsDistinct}
 use Rattle.std.proofs.Common.{⊎_elim}
 use Rattle.std.proofs.lemmas.Bool.{eq-eqb, eqb-true, or_cases}
 use Rattle.wu_base.specs.declared.addresses.TermList.{TermList}
-use Rattle.wu_base.proofs.Members.{Has, Has-append_right, Has-from_Contains, Contains-from_Has, all_has}
+use Rattle.wu_base.proofs.Members.{Has, Has-append_left, Has-append_right, Has-from_Contains, Contains-from_Has, all_from_has, all_has}
 use Rattle.wu_check.specs.Terms.{HaveTermAt, HaveTermsFrom}
 use Rattle.wu_check.specs.Comparing.{are_numbers_of, is_number_of}
-use Rattle.wu_check.specs.Numbering.{AreNumbers, has, number_of, one_more}
+use Rattle.wu_check.specs.Numbering.{has, number_of, one_more}
+use Rattle.wu_check.specs.Numbered.{addresses_in}
 
 -- ---- one list more
 
@@ -44,9 +44,6 @@ number_of-more (first ∷ lists) list address =
     ∙ or_if b (one_more (number_of lists address)) here (suc (suc (length lists)))
 
 -- ---- addresses in lists
-
-abbrev pub addresses_in : List TermList → List ℕ
-addresses_in lists = flat_map (λ list. list.at) lists
 
 or_false : (b : Bool) → (b || false) ≡ b
 or_false true = refl
@@ -127,6 +124,24 @@ pub distinct_right : (xs ys : List ℕ) → IsDistinct eqb (xs ++ ys) → IsDist
 unfolding IsDistinct
 distinct_right [] ys d = d
 distinct_right (x ∷ xs) ys d = distinct_right xs ys d.1
+
+addresses-append : (lists others : List TermList) → addresses_in (lists ++ others) ≡ addresses_in lists ++ addresses_in others
+addresses-append [] others = refl
+addresses-append (list ∷ lists) others =
+    ap (λ xs. list.at ++ xs) (addresses-append lists others) ∙ sym (append_assoc list.at (addresses_in lists) (addresses_in others))
+
+front_distinct : (xs ys : List ℕ) → IsDistinct eqb (xs ++ ys) → IsDistinct eqb xs
+unfolding IsDistinct
+front_distinct [] ys d = tt
+front_distinct (x ∷ xs) ys d = (
+  all_from_has (λ y. eqb x y ≡ false) xs (λ y h. all_has (λ v. eqb x v ≡ false) y (xs ++ ys) d.0 (Has-append_left y xs ys h)),
+  front_distinct xs ys d.1,
+)
+
+-- no address stands in two of the first lists, if none does in two of all
+pub distinct_left : (lists others : List TermList) → IsDistinct eqb (addresses_in (lists ++ others)) → IsDistinct eqb (addresses_in lists)
+distinct_left lists others d =
+    front_distinct (addresses_in lists) (addresses_in others) (subst (IsDistinct eqb) (addresses-append lists others) d)
 
 pub apart : (address : ℕ) (xs ys : List ℕ) → IsDistinct eqb (xs ++ ys) → Has address xs → Has address ys → ⊥
 unfolding IsDistinct
@@ -228,34 +243,35 @@ lacks_term (list ∷ lists) address token d h =
 
 -- ---- the tokens of a text
 
-module _ (low : ℕ) (lists : List TermList) (numbers : List ℕ) (distinct : IsDistinct eqb (addresses_in lists))
-    (are : AreNumbers low lists numbers) (from : ℕ) where
+-- the numbers are those of the lists that have so many addresses from start on
+abbrev pub AreNumbersFrom : List TermList → ℕ → ℕ → List ℕ → Type 0
+AreNumbersFrom lists start count numbers = (i : ℕ) → i < count → get_or numbers i 0 ≡ number_of lists (start + i)
+
+module _ (lists : List TermList) (start count : ℕ) (numbers : List ℕ) (distinct : IsDistinct eqb (addresses_in lists))
+    (are : AreNumbersFrom lists start count numbers) where
   abbrev terms : List (List ℕ)
   terms = map (λ list. list.term) lists
 
-  token_at : (place start : ℕ) (token : List ℕ) → start ≡ low + from + place
-      → is_number_of terms (get_or (drop from numbers) place 0) token ≡ is_token lists start token
-  token_at place start token e =
-      let there : get_or (drop from numbers) place 0 ≡ get_or numbers (from + place) 0 = get_or-drop from numbers place 0 in
-      let same : low + (from + place) ≡ start = omega (arith, e) in
-      ap (λ n. is_number_of terms n token) (there ∙ are (from + place) ∙ ap (number_of lists) same)
+  token_at : (place address : ℕ) (token : List ℕ) → address ≡ start + place → place < count
+      → is_number_of terms (get_or numbers place 0) token ≡ is_token lists address token
+  token_at place address token e l = ap (λ n. is_number_of terms n token) (are place l ∙ ap (number_of lists) (sym e))
 
-  pub have_terms : (tokens : List (List ℕ)) (place start : ℕ) → start ≡ low + from + place
-      → are_numbers_of terms (drop from numbers) place tokens ≡ true → HaveTermsFrom lists start tokens
-  have_terms [] place start e h = tt
-  have_terms (token ∷ tokens) place start e h =
-      let here = is_number_of terms (get_or (drop from numbers) place 0) token in
-      let later = are_numbers_of terms (drop from numbers) (place + 1) tokens in
-      let next : start + 1 ≡ low + from + (place + 1) = omega (arith, e) in (
-        has_term lists start token (sym (token_at place start token e) ∙ and_first here later h),
-        have_terms tokens (place + 1) (start + 1) next (and_second here later h),
+  pub have_terms : (tokens : List (List ℕ)) (place address : ℕ) → address ≡ start + place → place + length tokens ≤ count
+      → are_numbers_of terms numbers place tokens ≡ true → HaveTermsFrom lists address tokens
+  have_terms [] place address e l h = tt
+  have_terms (token ∷ tokens) place address e l h =
+      let here = is_number_of terms (get_or numbers place 0) token in
+      let later = are_numbers_of terms numbers (place + 1) tokens in
+      let next : address + 1 ≡ start + (place + 1) = omega (arith, e) in (
+        has_term lists address token (sym (token_at place address token e (omega (arith, l))) ∙ and_first here later h),
+        have_terms tokens (place + 1) (address + 1) next (omega (arith, l)) (and_second here later h),
       )
 
-  pub terms_same : (tokens : List (List ℕ)) (place start : ℕ) → start ≡ low + from + place
-      → HaveTermsFrom lists start tokens → are_numbers_of terms (drop from numbers) place tokens ≡ true
-  terms_same [] place start e h = refl
-  terms_same (token ∷ tokens) place start e h =
-      let next : start + 1 ≡ low + from + (place + 1) = omega (arith, e) in
-      ap (λ b. b && are_numbers_of terms (drop from numbers) (place + 1) tokens)
-      (token_at place start token e ∙ lacks_term lists start token distinct h.0)
-      ∙ terms_same tokens (place + 1) (start + 1) next h.1
+  pub terms_same : (tokens : List (List ℕ)) (place address : ℕ) → address ≡ start + place → place + length tokens ≤ count
+      → HaveTermsFrom lists address tokens → are_numbers_of terms numbers place tokens ≡ true
+  terms_same [] place address e l h = refl
+  terms_same (token ∷ tokens) place address e l h =
+      let next : address + 1 ≡ start + (place + 1) = omega (arith, e) in
+      ap (λ b. b && are_numbers_of terms numbers (place + 1) tokens)
+      (token_at place address token e (omega (arith, l)) ∙ lacks_term lists address token distinct h.0)
+      ∙ terms_same tokens (place + 1) (address + 1) next (omega (arith, l)) h.1

@@ -1,5 +1,5 @@
--- How a text's tokens are compared with the numbers that a part has at the addresses of its range: a number above 0 is that of a term,
--- counted from 1.
+-- How a text's tokens are compared with the numbers that a part has at the addresses of its range:
+-- a number above 0 is that of a term, counted from 1.
 use Rattle.std.specs.Prelude.{ℕ, ◌+◌, ◌-◌, ◌&&◌, Bool, true, nat_eq, nat_lt, List, [], ◌∷◌, get_or, length}
 use Rattle.std.specs.Cmp.Lexicographic.{pointwise}
 use Rattle.wu_check.specs.declared.comparing.Compared.{Compared}

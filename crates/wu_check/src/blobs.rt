@@ -7,8 +7,8 @@ ghost use Rattle.wu_check.specs.Reading.{HasSize};
 use std::alloc::Global;
 use wu_outside::{Fault, Store};
 
-/// The bytes of the blob, in one read, where it has `size` of them. None where it is absent or has another size. Errors
-/// are a fault of the store, only where its count rose, and out of memory.
+/// The bytes of the blob, in one read, where it has `size` of them. None where it is absent or has
+/// another size. Errors are a fault of the store, only where its count rose, and out of memory.
 pub fn read_whole<D: Store>(
     alloc: Global,
     store: &mut D,

@@ -1,9 +1,11 @@
 //! A text's tokens, compared with what a part of the index has at their addresses.
-ghost use Rattle.std.specs.Prelude.{◌≡◌, ◌+◌, ◌<◌, ◌≤◌, ◌^◌, List, [], ◌∷◌, MatchBool, true, eqb, get_or, length};
+ghost use Rattle.std.specs.Prelude.{◌≡◌, ◌+◌, ◌<◌, ◌≤◌, ◌^◌, List, [], ◌∷◌, MatchBool, eqb, get_or, length};
 ghost use Rattle.std.specs.List.{IsDistinct, flat_map};
+ghost use Rattle.wu_base.specs.Ranges.{AreApart};
+ghost use Rattle.wu_base.specs.declared.addresses.Range.{Range};
 ghost use Rattle.wu_base.specs.declared.addresses.TermList.{TermList};
-ghost use Rattle.wu_part.specs.Directories.{PartDirectory};
 ghost use Rattle.wu_check.specs.Indexing.{AreIndexed};
+ghost use Rattle.wu_check.specs.Places.{IsAtPlace};
 ghost use Rattle.wu_check.specs.Terms.{HaveTermsFrom};
 ghost use Rattle.wu_base.specs.declared.limits.TheConstants.{TEXT_MAX};
 ghost use Rattle.wu_token.specs.Pieces.{line_terms, piece_of};
@@ -23,25 +25,26 @@ pub struct Compared {
     pub same: bool,
 }
 
-/// Whether the lists of a part that are indexed have the tokens of a text, of at most `TEXT_MAX` bytes, at the addresses
-/// from `start` on, one each. That is exact where no address stands in two of the lists. The start is one of the index's
-/// addresses, or the one after them. Takes no memory.
-pub fn compare_text(index: &PartIndex, start: u64, text: &[u8]) -> Compared
-    requires short { length text.now ≤ TEXT_MAX }
-    requires start { index.now.low ≤ start }
-    requires end { start ≤ index.now.low + length index.now.numbers.items }
+/// Whether the lists of a part that are indexed have the tokens of a text, of at most `TEXT_MAX`
+/// bytes, at the addresses of a range, one each. The place is that of the range's first address,
+/// and the text has no more tokens than the range has addresses. Takes no memory.
+pub fn compare_text(index: &PartIndex, place: usize, text: &[u8]) -> Compared
+    requires { length text.now ≤ TEXT_MAX }
     ensures count { result.count ≡ length (tokens_of text.now) }
-    ensures same { (directory : PartDirectory) (lists : List TermList) → IsDistinct eqb (flat_map (λ list. list.at) lists)
-        → AreIndexed directory lists index.now → MatchBool result.same (HaveTermsFrom lists start (tokens_of text.now))
-        (HaveTermsFrom lists start (tokens_of text.now) → ⊥) }
+    ensures same { (ranges : List Range) (lists : List TermList) (range : Range) → AreIndexed ranges lists index.now
+        → IsDistinct eqb (flat_map (λ list. list.at) lists) → AreApart ranges → IsAtPlace ranges place range
+        → length (tokens_of text.now) ≤ range.len
+        → MatchBool result.same (HaveTermsFrom lists range.start (tokens_of text.now))
+        (HaveTermsFrom lists range.start (tokens_of text.now) → ⊥) }
 {
-    let terms = index.terms.as_slice();
-    let all = index.numbers.as_slice();
-    compare(terms, &all[(start - index.low) as usize..], text)
+    let numbers = index.numbers.as_slice();
+    let from = place.min(numbers.len());
+    compare(index.terms.as_slice(), &numbers[from..], text)
 }
 
-/// Compares the tokens of a text of at most `TEXT_MAX` bytes, in one walk over them, with the terms that have the numbers
-/// from the first place on. A number is that of a term's place, counted from 1, or 0 for none. Takes no memory.
+/// Compares the tokens of a text of at most `TEXT_MAX` bytes, in one walk over them, with the terms
+/// that have the numbers from the first place on. A number is that of a term's place, counted
+/// from 1, or 0 for none. Takes no memory.
 pub fn compare(terms: &[Bytes], numbers: &[u32], text: &[u8]) -> Compared
     requires { length text.now ≤ TEXT_MAX }
     ensures count { result.count ≡ length (tokens_of text.now) }

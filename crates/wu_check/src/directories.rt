@@ -8,8 +8,8 @@ use std::alloc::Global;
 use wu_base::{NoMemory, PartRec};
 use wu_part::{Directory, HEADER_LEN, read_directory, read_header};
 
-/// The directory of the recorded part, of which these are the bytes. None where they have none, or one that tells
-/// something else. The one error is out of memory.
+/// The directory of the recorded part, of which these are the bytes. None where they have none, or
+/// one that tells something else. The one error is out of memory.
 pub fn directory_in(
     alloc: Global,
     part: &PartRec,
@@ -39,8 +39,8 @@ fn if_told(directory: Directory, part: &PartRec) -> Option<Directory>
     }
 }
 
-/// The bytes of a part's directory: as many after the header as it tells. None where there is no header, or there
-/// aren't so many.
+/// The bytes of a part's directory: as many after the header as it tells. None where there is no
+/// header, or there aren't so many.
 fn code_in(bytes: &[u8]) -> Option<&[u8]>
     ensures found { IfSome result (λ code. (header blocks : List ℕ) × (bytes.now ≡ header ++ (code.now ++ blocks))
         × SpellsHeader (length code.now) header) }

@@ -1,28 +1,85 @@
 //! The lists of a part, side by side by address.
-ghost use Rattle.std.specs.Prelude.{◌≡◌, ℕ, List, ◌+◌, ◌≤◌, IfNone, IfOk, IfSome, length, slice_range};
+ghost use Rattle.std.specs.Prelude.{◌≡◌, ℕ, List, ◌+◌, ◌≤◌, Some, IfNone, IfOk, IfSome, length, slice_range};
+ghost use Rattle.std.specs.List.{AllByRecursion};
+ghost use Rattle.wu_base.specs.Ranges.{AreApart};
 ghost use Rattle.wu_layout.specs.Ascending.{AscendBetween};
 ghost use Rattle.wu_part.specs.Directories.{IsEntry};
-ghost use Rattle.wu_part.specs.Parts.{HoldsBlock, LieIn};
-ghost use Rattle.wu_check.specs.Indexing.{HoldsAddresses};
+ghost use Rattle.wu_part.specs.Parts.{HoldsBlock, IsBroken, IsDirectoryOf, IsNoPart, LieIn};
+ghost use Rattle.wu_check.specs.Indexing.{HasListsOf, HoldsAddresses, IsIndexOf};
 
+use crate::directories::directory_in;
+use crate::numbering::Numbering;
 use std::alloc::Global;
-use wu_base::{Bytes, NoMemory};
+use wu_base::{ADDRESSES_MAX, Bytes, NoMemory, PartRec, Range};
 use wu_part::{BlockEntry, Directory, Entry, read_block};
 
-/// What a part has at its addresses: its terms, and for each address from `low` on, up to its highest one, the number
-/// of the term that stands there, counted from 1, or 0 where none does.
+/// What a part has at the addresses of some ranges.
 #[derive(Drop)]
 pub struct PartIndex {
-    /// The part's lowest address.
-    pub low: u64,
     /// The part's terms, in the order of its directory.
     pub terms: Vec<Bytes>,
-    /// The numbers, one for each address of the part's span.
+    /// For each address of the ranges, one range after another, the number of the term that stands
+    /// there, counted from 1, or 0 where none does.
     pub numbers: Vec<u32>,
 }
 
-/// The addresses in the blocks of an entry of the directory, ascending; each block is decoded once. The blocks lie within
-/// the bytes, which are the part's. None where they hold no addresses as the entry says. The one error is out of memory.
+/// The index of the recorded part, of which these are the bytes, at the addresses of the ranges,
+/// which ascend, none overlapping with another, and end at `ADDRESSES_MAX` at the latest. None
+/// exactly where the part is broken, also where two of its lists share an address, in the ranges
+/// or outside of them. Errors are out of memory, also where there are more than 2^32 - 1 terms.
+///
+/// Each block is decoded once, and each address is looked up in the ranges by a binary search.
+/// Takes memory for the addresses of the ranges, 4 bytes each, and for the terms; while the index
+/// is made, also for the directory, the ranges, the part's addresses outside of the ranges, 8 bytes
+/// each, and the addresses of one term. How far the part's addresses are apart doesn't matter.
+pub fn index_part(
+    alloc: Global,
+    part: &PartRec,
+    bytes: &[u8],
+    ranges: &[Range],
+) -> Result<Option<PartIndex>, NoMemory>
+    requires apart { AreApart ranges.now }
+    requires bounded { AllByRecursion (λ range. range.start + range.len ≤ ADDRESSES_MAX) ranges.now }
+    ensures found { IfOk result (λ found. IfSome found (IsIndexOf part.now bytes.now ranges.now)) }
+    ensures none { IfOk result (λ found. IfNone found (IsBroken part.now (Some bytes.now))) }
+{
+    let Some(directory) = directory_in(alloc, part, bytes)? else {
+        return Ok(None);
+    };
+    index_lists(alloc, &directory, bytes, ranges)
+}
+
+/// The index of the lists of a part with this directory. None where the bytes hold no lists of its
+/// terms, or two of them share an address.
+fn index_lists(
+    alloc: Global,
+    directory: &Directory,
+    bytes: &[u8],
+    ranges: &[Range],
+) -> Result<Option<PartIndex>, NoMemory>
+    requires own { IsDirectoryOf directory.now bytes.now }
+    requires apart { AreApart ranges.now }
+    requires bounded { AllByRecursion (λ range. range.start + range.len ≤ ADDRESSES_MAX) ranges.now }
+    ensures found { IfOk result (λ found. IfSome found (HasListsOf directory.now bytes.now ranges.now)) }
+    ensures none { IfOk result (λ found. IfNone found (IsNoPart directory.now (Some bytes.now))) }
+{
+    directory.is_spelled();
+    let mut numbering = Numbering::new(alloc, ranges)?;
+    for mut entry in directory.terms() {
+        let term = Bytes::from_slice(alloc, entry.term())?;
+        let Some(addresses) = addresses_of(alloc, directory, &mut entry, bytes)? else {
+            return Ok(None);
+        };
+        if !numbering.add(term, &addresses)? {
+            return Ok(None);
+        }
+    }
+    Ok(numbering.into_index())
+}
+
+/// The addresses in the blocks of an entry of the directory, ascending; each block is decoded once.
+/// The blocks lie within the bytes, which are the part's. None where they hold no addresses as the
+/// entry says. The one error is out of memory.
 pub fn addresses_of(
     alloc: Global,
     directory: &Directory,

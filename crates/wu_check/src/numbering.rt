@@ -1,33 +1,108 @@
-//! Numbers of terms at the addresses of a part's span.
-ghost use Rattle.std.specs.Prelude.{◌≡◌, ℕ, ◌+◌, ◌-◌, ◌<◌, ◌≤◌, get_or, nat_eq, length, if◌then◌else◌};
-ghost use Rattle.std.specs.List.{AllByRecursion, list_all};
+//! Numbers of a part's terms, at the places of the addresses where the terms stand.
+ghost use Rattle.std.specs.Prelude.{◌≡◌, ℕ, List, [], ◌∷◌, ◌++◌, ◌+◌, ◌≤◌, true, IfOk, MatchBool, MatchOption, OnOk, eqb, length};
+ghost use Rattle.std.specs.List.{AllByRecursion, IsDistinct};
+ghost use Rattle.std.specs.List.Sorted.{IsStrictlyIncreasing};
+ghost use Rattle.wu_base.specs.Ranges.{AreApart};
+ghost use Rattle.wu_base.specs.declared.addresses.Range.{Range};
+ghost use Rattle.wu_base.specs.declared.addresses.TermList.{TermList};
+ghost use Rattle.wu_check.specs.Indexing.{AreIndexed};
+ghost use Rattle.wu_check.specs.Numbered.{AreNumbered, HasPlaces, addresses_in, with_list};
 ghost use Rattle.wu_check.specs.Numbering.{has};
 
-/// Whether no number stands at the addresses, where the first place is that of address `low`. An address that has no
-/// place has no number.
-pub fn are_free(numbers: &[u32], low: u64, addresses: &[u64]) -> bool
-    ensures { result ≡ list_all (λ address. nat_eq (get_or numbers.now (address - low) 0) 0) addresses.now }
-{
-    addresses.iter().all(|address| number_at(numbers, address.saturating_sub(low)) == 0)
+use crate::indexing::PartIndex;
+use crate::places::{PlacedRange, place_of, placed, total};
+use std::alloc::Global;
+use wu_base::{ADDRESSES_MAX, Bytes, NoMemory, Range};
+
+/// The lists of a part, as far as they were numbered.
+#[derive(Drop)]
+pub(crate) struct Numbering {
+    /// The ranges whose addresses have places.
+    pub ranges: Vec<PlacedRange>,
+    /// The terms of the lists, in order.
+    pub terms: Vec<Bytes>,
+    /// At each place the number of the list that has the address, counted from 1, or 0 for none.
+    pub numbers: Vec<u32>,
+    /// The addresses of the lists that have no place.
+    pub others: Vec<u64>,
 }
 
-/// The number at the place: 0 where there is no such place.
-fn number_at(numbers: &[u32], place: u64) -> u32
-    ensures { result ≡ get_or numbers.now place 0 }
-{
-    match numbers.get(place as usize) {
-        Some(number) => *number,
-        None => 0,
+impl Numbering {
+    /// No list yet.
+    pub(crate) fn new(alloc: Global, ranges: &[Range]) -> Result<Numbering, NoMemory>
+        requires apart { AreApart ranges.now }
+        requires bounded { AllByRecursion (λ range. range.start + range.len ≤ ADDRESSES_MAX) ranges.now }
+        ensures { IfOk result (AreNumbered ranges.now []) }
+    {
+        Ok(Numbering {
+            ranges: placed(alloc, ranges)?,
+            terms: Vec::new(alloc),
+            numbers: vec![in alloc; 0u32; total(ranges) as usize]?,
+            others: Vec::new(alloc),
+        })
+    }
+
+    /// Numbers one list more. False where an address that has a place stands in two lists. Errors
+    /// are out of memory, also where there are more than 2^32 - 1 lists.
+    pub(crate) fn add(&mut self, term: Bytes, addresses: &[u64]) -> Result<bool, NoMemory>
+        requires { HasPlaces self.old }
+        ensures { IfOk result (λ added. (ranges : List Range) (lists : List TermList) → AreNumbered ranges lists self.old
+            → MatchBool added (AreNumbered ranges (with_list lists term addresses.now) self.new)
+            (IsDistinct eqb (addresses_in (with_list lists term addresses.now)) → ⊥)) }
+    {
+        self.terms.push(term)?;
+        let number = u32::try_from(self.terms.len()).map_err(|_| NoMemory)?;
+        for address in addresses {
+            if !self.put(*address, number)? {
+                return Ok(false);
+            }
+        }
+        Ok(true)
+    }
+
+    /// Numbers one address more, of the last list, which has that number. False where it has a
+    /// place and stands in a list. The one error is out of memory.
+    fn put(&mut self, address: u64, number: u32) -> Result<bool, NoMemory>
+        requires { HasPlaces self.old }
+        ensures places { OnOk result (HasPlaces self.new) }
+        ensures put { IfOk result (λ put. (ranges : List Range) (lists : List TermList) (term addresses : List ℕ)
+            → number ≡ length lists + 1 → AreNumbered ranges (with_list lists term addresses) self.old
+            → MatchBool put (AreNumbered ranges (with_list lists term (addresses ++ address ∷ [])) self.new)
+            (has (addresses_in (with_list lists term addresses)) address ≡ true)) }
+    {
+        match place_of(&self.ranges, address) {
+            None => {
+                self.others.push(address)?;
+                Ok(true)
+            }
+            Some(place) if self.numbers[place as usize] == 0 => {
+                self.numbers[place as usize] = number;
+                Ok(true)
+            }
+            Some(_) => Ok(false),
+        }
+    }
+
+    /// The index of the lists. None where an address stands in two of them that has no place.
+    pub(crate) fn into_index(mut self) -> Option<PartIndex>
+        ensures { (ranges : List Range) (lists : List TermList) → AreNumbered ranges lists self
+            → MatchOption result (IsDistinct eqb (addresses_in lists) → ⊥)
+            (λ index. AreIndexed ranges lists index × IsDistinct eqb (addresses_in lists)) }
+    {
+        self.others.sort_unstable();
+        if !rise(&self.others) {
+            return None;
+        }
+        Some(PartIndex {
+            terms: self.terms,
+            numbers: self.numbers,
+        })
     }
 }
 
-/// Puts the number at the places of the addresses, which all have one: the first is that of address `low`.
-pub fn put_number(numbers: &mut [u32], low: u64, number: u32, addresses: &[u64])
-    requires { AllByRecursion (λ address. (low ≤ address) × (address - low < length numbers.old)) addresses.now }
-    ensures { (place : ℕ) → get_or numbers.new place 0
-        ≡ (if has addresses.now (low + place) then number else get_or numbers.old place 0) }
+/// Whether each number is above the one before it.
+fn rise(numbers: &[u64]) -> bool
+    ensures { MatchBool result (IsStrictlyIncreasing numbers.now) (IsStrictlyIncreasing numbers.now → ⊥) }
 {
-    for address in addresses {
-        numbers[(address - low) as usize] = number;
-    }
+    numbers.is_sorted_by(|number, next| *number < *next)
 }

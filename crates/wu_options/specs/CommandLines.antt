@@ -7,7 +7,7 @@ use Rattle.wu_base.specs.declared.limits.TheConstants.{INPUT_MAX, FLUSH_DEFAULT}
 use Rattle.wu_fields.specs.Numbers.{number_of}
 use Rattle.wu_options.specs.declared.command_lines.TheConstants.{FLUSH_MAX}
 use Rattle.wu_options.specs.declared.command_lines.CommandLine.{CommandLine}
-use Rattle.wu_options.specs.declared.command_lines.CommandLine.TheVariants.{Run, Demo}
+use Rattle.wu_options.specs.declared.command_lines.CommandLine.TheVariants.{Run, Demo, Check}
 use Rattle.wu_options.specs.declared.command_lines.Settings.{Settings}
 
 -- ---- what each argument is
@@ -110,20 +110,31 @@ settings_with max flush_at =
 abbrev pub settings_by : Said → Option Settings
 settings_by said = settings_with (number_in 0 INPUT_MAX INPUT_MAX said.max_inputs) (number_in 1 FLUSH_MAX FLUSH_DEFAULT said.flushes)
 
--- the number where there are no values of options
-abbrev pub without_options : List (List ℕ) → List (List ℕ) → Option ℕ → Option ℕ
-without_options [] [] number = number
-without_options [] (value ∷ more) number = None
-without_options (value ∷ more) flushes number = None
+-- that where there are no values of options
+abbrev pub without_options : {X : Type 0} → List (List ℕ) → List (List ℕ) → Option X → Option X
+without_options [] [] x = x
+without_options [] (value ∷ more) x = None
+without_options (value ∷ more) flushes x = None
 
 -- a demo has no option, and its number is at most 2^64 - 1
 abbrev pub demo_by : Said → List ℕ → Option ℕ
 demo_by said number = without_options said.max_inputs said.flushes (number_of number (2 ^ 64 - 1))
 
--- the positional arguments are `run`, or `demo` and a number
+-- nor has a check
+abbrev pub check_by : Said → Option CommandLine
+check_by said = without_options said.max_inputs said.flushes (Some Check)
+
+-- the one positional argument is `run` or `check`
+abbrev pub alone_by : Said → List ℕ → Option CommandLine
+alone_by said command =
+    if bytes_eq command (codes "run") then option_map Run (settings_by said)
+    else if bytes_eq command (codes "check") then check_by said
+    else None
+
+-- or the positional arguments are `demo` and a number
 abbrev pub asked_by : Said → List (List ℕ) → Option CommandLine
 asked_by said [] = None
-asked_by said (command ∷ []) = if bytes_eq command (codes "run") then option_map Run (settings_by said) else None
+asked_by said (command ∷ []) = alone_by said command
 asked_by said (command ∷ number ∷ []) = if bytes_eq command (codes "demo") then option_map Demo (demo_by said number) else None
 asked_by said (command ∷ number ∷ other ∷ more) = None
 

@@ -10,6 +10,8 @@ pub enum CommandLine {
     Run(Settings),
     /// `demo` and a number: the session of a script that is made from the number.
     Demo(u64),
+    /// `check`: the store is read, and what is wrong in it is told.
+    Check,
 }
 
 /// The settings of a session, which the command-line arguments after `run` give.

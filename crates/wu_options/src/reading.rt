@@ -2,7 +2,7 @@
 ghost use Rattle.std.specs.Prelude.{◌≡◌, ◌≤◌, IfOk, IfSome, map, option_map, codes};
 ghost use Rattle.std.specs.Option.{option_to_list};
 ghost use Rattle.clap.specs.Words.{app_of, found_of};
-ghost use Rattle.wu_options.specs.CommandLines.{command_line_of, command_line_by, settings_by, demo_by, number_in};
+ghost use Rattle.wu_options.specs.CommandLines.{check_by, command_line_by, command_line_of, demo_by, number_in, settings_by};
 ghost use Rattle.wu_options.specs.Parser.{command_app, said_in};
 
 use crate::command_lines::{CommandLine, FLUSH_MAX, Settings};
@@ -15,8 +15,9 @@ use wu_fields::read_decimal;
 /// Reads the command-line arguments, those after the program's name. They ask for a session where
 /// the one positional argument is `run`, and `--max-input` and `--flush` are each given at most
 /// once, with a number in their range, as `--flush=5` or as `--flush` and the next argument; they
-/// ask for a demo where the positional arguments are `demo` and a decimal number up to 2^64 - 1,
-/// and there is no option. All other arguments are invalid, and the answer is `None`.
+/// ask for a demo where the positional arguments are `demo` and a decimal number up to 2^64 - 1, and
+/// for a check of the store where `check` is the one positional argument, in both cases without an
+/// option. All other arguments are invalid, and the answer is `None`.
 pub fn read_command_line(alloc: Global, arguments: &[&str]) -> Result<Option<CommandLine>, NoMemory>
     ensures { IfOk result (λ line. line ≡ command_line_of (map (λ argument. argument.now) arguments.now)) }
 {
@@ -58,6 +59,7 @@ fn command_line_in(matches: &ArgMatches<'_>) -> Option<CommandLine>
 {
     match matches.get_strs("words")? {
         [command] if *command == "run" => Some(CommandLine::Run(settings_in(matches)?)),
+        [command] if *command == "check" => check_in(matches),
         [command, number] if *command == "demo" => Some(CommandLine::Demo(demo_in(
             matches, number,
         )?)),
@@ -88,6 +90,16 @@ fn demo_in(matches: &ArgMatches<'_>, number: &str) -> Option<u64>
 {
     match (matches.get_str("max-input"), matches.get_str("flush")) {
         (None, None) => read_decimal(number.as_bytes(), u64::MAX),
+        _ => None,
+    }
+}
+
+/// A check, which has no options.
+fn check_in(matches: &ArgMatches<'_>) -> Option<CommandLine>
+    ensures { result ≡ check_by (said_in (found_of matches.now)) }
+{
+    match (matches.get_str("max-input"), matches.get_str("flush")) {
+        (None, None) => Some(CommandLine::Check),
         _ => None,
     }
 }

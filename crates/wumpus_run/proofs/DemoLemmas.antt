@@ -20,7 +20,7 @@ use Rattle.wu_script.specs.Said.{Reading, IsReading, said_by, said_of}
 use Rattle.wu_script.specs.Items.{first_of, IsBeforeEnd, IsFirstItem, IsNext}
 use Rattle.wu_script.proofs.ItemListLemmas.{items_of-none, items_of-some}
 use Rattle.wu_options.specs.declared.command_lines.CommandLine.{CommandLine}
-use Rattle.wu_options.specs.declared.command_lines.CommandLine.TheVariants.{Run, Demo}
+use Rattle.wu_options.specs.declared.command_lines.CommandLine.TheVariants.{Run, Demo, Check}
 use Rattle.wu_image.specs.Images.{IsSaved}
 use Rattle.wu_query.specs.States.{State}
 use Rattle.wu_engine.specs.declared.engines.Engine.{Engine}
@@ -141,6 +141,7 @@ pub nothing-shown : (line : Option CommandLine) (gained : Option (List ℕ)) →
 nothing-shown None gained = tt
 nothing-shown (Some (Run settings)) gained = tt
 nothing-shown (Some (Demo number)) gained = unshown number gained
+nothing-shown (Some Check) gained = tt
 
 fault_ends : (fault : Fault)
     → (status_of_fault fault ≡ Done) ⊎ ((status_of_fault fault ≡ WriteFault) ⊎ (status_of_fault fault ≡ NoMemory))

@@ -7,11 +7,11 @@ use Rattle.std.proofs.lemmas.Bool.{and_parts, leb-true}
 use Rattle.wu_base.specs.declared.limits.TheConstants.{INPUT_MAX}
 use Rattle.wu_fields.specs.Numbers.{is_plain_numeral, number_of}
 use Rattle.wu_options.specs.declared.command_lines.CommandLine.{CommandLine}
-use Rattle.wu_options.specs.declared.command_lines.CommandLine.TheVariants.{Run, Demo}
+use Rattle.wu_options.specs.declared.command_lines.CommandLine.TheVariants.{Run, Demo, Check}
 use Rattle.wu_options.specs.declared.command_lines.Settings.{Settings}
 use Rattle.wumpus_run.specs.Session.{session_settings, settings_of}
 use Rattle.wu_options.specs.CommandLines.{Said, at_least, number_in, settings_with, settings_by, asked_by, command_line_by}
-use Rattle.wu_options.specs.CommandLines.{command_line_of, said_from, demo_by}
+use Rattle.wu_options.specs.CommandLines.{check_by, command_line_of, demo_by, said_from, without_options}
 
 number_within : (field : List ℕ) (most : ℕ) → IfSome (number_of field most) (λ n. n ≤ most)
 unfolding number_of
@@ -40,6 +40,7 @@ option_within least most default (value ∷ other ∷ more) within = tt
 abbrev IsWithin : CommandLine → Type 0
 IsWithin (Run settings) = settings.max_input ≤ INPUT_MAX
 IsWithin (Demo number) = Unit {0}
+IsWithin Check = Unit {0}
 
 run_within : (max flush_at : Option ℕ) → IfSome max (λ n. n ≤ INPUT_MAX)
     → IfSome (option_map Run (settings_with max flush_at)) IsWithin
@@ -51,13 +52,21 @@ demo_within : (number : Option ℕ) → IfSome (option_map Demo number) IsWithin
 demo_within None = tt
 demo_within (Some number) = tt
 
+check_within : (max_inputs flushes : List (List ℕ)) → IfSome (without_options max_inputs flushes (Some Check)) IsWithin
+check_within [] [] = tt
+check_within [] (value ∷ more) = tt
+check_within (value ∷ more) flushes = tt
+
 asked_within : (said : Said) (words : List (List ℕ)) → IfSome (asked_by said words) IsWithin
 asked_within said [] = tt
-asked_within said (command ∷ []) = by_test (bytes_eq command (codes "run"))
+asked_within said (command ∷ []) = by_test (bytes_eq command (codes "run")) (bytes_eq command (codes "check"))
   where
-    by_test : (b : Bool) → IfSome (if b then option_map Run (settings_by said) else None) IsWithin
-    by_test true = run_within (number_in 0 INPUT_MAX INPUT_MAX said.max_inputs) _ (option_within 0 INPUT_MAX INPUT_MAX said.max_inputs (omega arith))
-    by_test false = tt
+    by_test : (b c : Bool)
+        → IfSome (if b then option_map Run (settings_by said) else if c then check_by said else None) IsWithin
+    by_test true c =
+        run_within (number_in 0 INPUT_MAX INPUT_MAX said.max_inputs) _ (option_within 0 INPUT_MAX INPUT_MAX said.max_inputs (omega arith))
+    by_test false true = check_within said.max_inputs said.flushes
+    by_test false false = tt
 asked_within said (command ∷ number ∷ []) = by_test (bytes_eq command (codes "demo"))
   where
     by_test : (b : Bool) → IfSome (if b then option_map Demo (demo_by said number) else None) IsWithin

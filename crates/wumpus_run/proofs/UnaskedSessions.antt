@@ -2,17 +2,23 @@
 use Rattle.std.proofs.Common.{◌≡◌, ◌⊎◌, inl, inr, ℕ, List, Option, None, Some, refl, ap, sym, subst, ◌∙◌, ⊎_elim}
 use Rattle.std.specs.Prelude.{IfSome, option_and_then}
 use Rattle.wu_outside.specs.Content.{Content}
+use Rattle.std.specs.Io.KnownBytes.{Appends}
+use Rattle.std.proofs.KnownBytes.{Appends-nil}
 use Rattle.wu_outside.specs.Crash.{Moments}
+use Rattle.wu_outside.specs.Gains.{GainsPrefix}
 use Rattle.wu_outside.specs.declared.ranges.ReadRange.{ReadRange}
 use Rattle.wu_options.specs.CommandLines.{command_line_of}
 use Rattle.wu_options.specs.declared.command_lines.CommandLine.{CommandLine}
-use Rattle.wu_options.specs.declared.command_lines.CommandLine.TheVariants.{Run, Demo}
+use Rattle.wu_options.specs.declared.command_lines.CommandLine.TheVariants.{Run, Demo, Check}
+use Rattle.wu_check.specs.Wrong.{IsChecked}
+use Rattle.wu_check.specs.declared.checking.Checked.{Checked}
 use Rattle.wu_options.specs.declared.command_lines.Settings.{Settings}
 use Rattle.wu_query.specs.States.{State}
 use Rattle.wu_engine.specs.Opening.{IsSpentAt}
 use Rattle.wumpus_run.specs.declared.statuses.Status.{Status}
 use Rattle.wumpus_run.specs.declared.statuses.Status.TheVariants.{Done, Usage, ReadFault, WriteFault, NoMemory, InputTooLong, StoreFault}
 use Rattle.wumpus_run.specs.declared.statuses.Status.TheVariants.{Damaged, Spent}
+use Rattle.wumpus_run.specs.Checks.{ChecksStore, FindsStore, IfCheck, check_line}
 use Rattle.wumpus_run.specs.Crashes.{Survives}
 use Rattle.wumpus_run.specs.Demo.{IsShown}
 use Rattle.wumpus_run.specs.Ended.{IsSession, KeepsBlobs, OpensOnly}
@@ -145,6 +151,10 @@ pub demo_asked : (line : Option CommandLine) (arguments : List (List ℕ)) (numb
     → line ≡ command_line_of arguments → settings_of arguments ≡ None
 demo_asked line arguments number is said = ap (option_and_then session_settings) (sym said ∙ is)
 
+pub check_asked : (line : Option CommandLine) (arguments : List (List ℕ)) → line ≡ Some Check → line ≡ command_line_of arguments
+    → settings_of arguments ≡ None
+check_asked line arguments is said = ap (option_and_then session_settings) (sym said ∙ is)
+
 -- ---- what is said by the command line
 
 pub by_line : (P : Option CommandLine → Type 0) (line : Option CommandLine) (arguments : List (List ℕ)) (asked : Option CommandLine)
@@ -157,6 +167,49 @@ pub all_alone : {I O D : Type 0} (line : Option CommandLine) (source : I) (sink 
 all_alone None source sink store = (refl, refl, refl)
 all_alone (Some (Run settings)) source sink store = tt
 all_alone (Some (Demo number)) source sink store = (refl, refl)
+all_alone (Some Check) source sink store = refl
+
+nothing_told : (status : Status) (holds : Option Content) (gained : Option (List ℕ))
+    → IfSome holds (λ content. Appends gained gained []
+    ⊎ ((checked : Checked) × IsChecked content checked × GainsPrefix gained gained (check_line checked)))
+nothing_told status None gained = tt
+nothing_told status (Some content) gained = inl (Appends-nil gained)
+
+-- nothing was checked
+pub unchecked : (line : Option CommandLine) (before : Moment) (moments : Option Moments)
+    → IfCheck line (ChecksStore NoMemory before before moments moments)
+unchecked None before moments = tt
+unchecked (Some (Run settings)) before moments = tt
+unchecked (Some (Demo number)) before moments = tt
+unchecked (Some Check) before moments = record {
+  found = record {
+    ends = inr (inr (inr refl));
+    done = λ e. absurd (cc);
+    prefix = nothing_told NoMemory before.holds before.gained;
+  };
+  holds = refl;
+  moments = refl;
+}
+
+-- a check ends in one of four ways
+pub check_only : (status : Status) (before now : Moment) → now.read_faults ≡ before.read_faults
+    → FindsStore status before.holds before.gained now.gained → IsCounted WriteFault status before.write_faults now.write_faults
+    → IsCounted StoreFault status before.store_faults now.store_faults → IsUnasked status before now
+check_only status before now read found write store =
+    let other = λ (fault : Status) (d : fault ≡ Done → ⊥) (w : fault ≡ WriteFault → ⊥) (s : fault ≡ StoreFault → ⊥)
+        (m : fault ≡ NoMemory → ⊥) (e : status ≡ fault).
+    ⊎_elim (λ is. d (sym e ∙ is)) (λ rest. ⊎_elim (λ is. w (sym e ∙ is)) (λ last. ⊎_elim (λ is. s (sym e ∙ is)) (λ is. m (sym e ∙ is))
+    last) rest) found.ends in
+    record {
+      read_fault = record {
+        rose = λ e. absurd (other ReadFault (λ f. (cc)) (λ f. (cc)) (λ f. (cc)) (λ f. (cc)) e);
+        calm = λ e. read;
+      };
+      write_fault = write;
+      store_fault = store;
+      damaged = λ blob e. other (Damaged blob) (λ f. (cc)) (λ f. (cc)) (λ f. (cc)) (λ f. (cc)) e;
+      spent = λ next e. other (Spent next) (λ f. (cc)) (λ f. (cc)) (λ f. (cc)) (λ f. (cc)) e;
+    }
 
 -- where something is asked for, nothing isn't
 pub none_told : {X : Type 0} (x : X) → Some x ≡ None → ⊥

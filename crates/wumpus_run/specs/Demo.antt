@@ -15,7 +15,7 @@ use Rattle.wu_script.specs.Items.{items_of}
 use Rattle.wu_script.specs.Said.{Reading, IsReading, said_of}
 use Rattle.wu_demo.specs.Script.{demo_script}
 use Rattle.wu_options.specs.declared.command_lines.CommandLine.{CommandLine}
-use Rattle.wu_options.specs.declared.command_lines.CommandLine.TheVariants.{Run, Demo}
+use Rattle.wu_options.specs.declared.command_lines.CommandLine.TheVariants.{Run, Demo, Check}
 use Rattle.wu_query.specs.States.{State}
 use Rattle.wu_engine.specs.declared.engines.Engine.{Engine}
 use Rattle.wu_engine.specs.Stands.{Stands}
@@ -124,3 +124,4 @@ abbrev pub IfDemo : Option CommandLine → (ℕ → Type 0) → Type 0
 IfDemo None P = Unit {0}
 IfDemo (Some (Run settings)) P = Unit {0}
 IfDemo (Some (Demo number)) P = P number
+IfDemo (Some Check) P = Unit {0}

@@ -5,16 +5,18 @@
 pub mod Replies
 pub mod Taking
 pub mod Session
+pub mod Ended
 -- what was read of the store, and what a crash leaves of it
 pub mod Permitted
 pub mod Crashes
 -- the line of a demonstration
 pub mod Demo
+-- a check of the store
+pub mod Checks
 -- what a session makes of an export
 pub mod Rebuilt
 -- ---- What only private functions and proofs need
 
-pub mod Ended
 pub mod Started
 pub mod Kept
 pub mod Raised

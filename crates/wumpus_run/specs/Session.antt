@@ -15,7 +15,7 @@ use Rattle.wu_script.specs.Holding.{GivesAtMost, but_last}
 use Rattle.wu_script.specs.Items.{items_of, whole_items_of}
 use Rattle.wu_options.specs.CommandLines.{command_line_of}
 use Rattle.wu_options.specs.declared.command_lines.CommandLine.{CommandLine}
-use Rattle.wu_options.specs.declared.command_lines.CommandLine.TheVariants.{Run, Demo}
+use Rattle.wu_options.specs.declared.command_lines.CommandLine.TheVariants.{Run, Demo, Check}
 use Rattle.wu_options.specs.declared.command_lines.Settings.{Settings}
 use Rattle.wumpus_run.specs.declared.statuses.Status.{Status}
 use Rattle.wumpus_run.specs.declared.statuses.Status.TheVariants.{Done, Usage, ReadFault, WriteFault, NoMemory, InputTooLong, StoreFault}
@@ -58,17 +58,20 @@ moment Source Sink Store source sink store = record {
 abbrev pub session_settings : CommandLine → Option Settings
 session_settings (Run settings) = Some settings
 session_settings (Demo number) = None
+session_settings Check = None
 
 -- the settings of the session that the arguments ask for
 abbrev pub settings_of : List (List ℕ) → Option Settings
 settings_of arguments = option_and_then session_settings (command_line_of arguments)
 
--- What the arguments have no use for is as it was: all where they ask for nothing, source and store at a demonstration.
+-- What the arguments have no use for is as it was: all where they ask for nothing, source and store at a demonstration, the source at a
+-- check.
 abbrev pub LeavesAlone : {I O D : Type 0} → Option CommandLine → (source source_now : I) (sink sink_now : O) (store store_now : D) → Type 0
 LeavesAlone None source source_now sink sink_now store store_now =
     (source_now ≡ source) × (sink_now ≡ sink) × (store_now ≡ store)
 LeavesAlone (Some (Run settings)) source source_now sink sink_now store store_now = Unit {0}
 LeavesAlone (Some (Demo number)) source source_now sink sink_now store store_now = (source_now ≡ source) × (store_now ≡ store)
+LeavesAlone (Some Check) source source_now sink sink_now store store_now = source_now ≡ source
 
 -- `Usage` comes only where the arguments ask for nothing, and then it does come, unless there was no memory to read them.
 pub record IsUsage (status : Status) (line : Option CommandLine) : Type 0 where

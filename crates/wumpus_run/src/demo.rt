@@ -60,7 +60,7 @@ fn put_tally(alloc: Global, number: u64, tally: &Tally) -> Result<Vec<u8>, NoMem
 }
 
 /// Appends a number after a TAB.
-fn put_number(line: &mut Vec<u8>, number: u64) -> Result<(), NoMemory>
+pub(crate) fn put_number(line: &mut Vec<u8>, number: u64) -> Result<(), NoMemory>
     ensures { OnOk result (line.new.items ≡ line.old.items ++ 9 ∷ [] ++ decimal number) }
 {
     line.push(b'\t')?;

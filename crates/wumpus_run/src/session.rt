@@ -26,6 +26,7 @@ ghost use Rattle.wu_engine.specs.Opening.{HasRoot, HoldsImage, IsBeginCause, IsO
 ghost use Rattle.wu_engine.specs.Opening.{ReadsAtOpening};
 ghost use Rattle.wu_engine.specs.States.{rested_state, saved_state};
 ghost use Rattle.wu_engine.specs.declared.faults.BeginFault.TheVariants.{Damaged as SavedIsDamaged};
+ghost use Rattle.wumpus_run.specs.Checks.{ChecksStore, IfCheck};
 ghost use Rattle.wumpus_run.specs.Demo.{IfDemo, IsShown};
 ghost use Rattle.wumpus_run.specs.Kept.{AddsDrawnFor, KeepsDrawn, KeepsEitherSave};
 ghost use Rattle.wumpus_run.specs.Kept.{KeepsRootsCheckpoint, TouchesNoStray};
@@ -42,6 +43,7 @@ ghost use Rattle.wumpus_run.specs.Strays.{AddsNoStray};
 ghost use Rattle.wumpus_run.specs.Crashes.{left_to_next, Survives};
 
 use crate::answering::answer;
+use crate::checking::check_store;
 use crate::demo::demo;
 use crate::statuses::Status;
 use std::alloc::Global;
@@ -73,6 +75,12 @@ pub fn run<I: Source, O: Sink, D: Store>(
     // Where they ask for a demonstration, the sink gained its line, or a prefix of it.
     ensures demo { IfDemo (command_line_of (texts_of words.now))
         (λ number. IsShown number result (O.gained sink.old) (O.gained sink.new)) }
+    // Where they ask for a check, the sink gained the line that tells what is found of the store, or a prefix
+    // of it, and the store is as it was.
+    ensures check { IfCheck (command_line_of (texts_of words.now)) (ChecksStore result
+        (moment I.Source O.Sink D.Store source.old sink.old store.old)
+        (moment I.Source O.Sink D.Store source.new sink.new store.new)
+        (D.moments store.old) (D.moments store.new)) }
 
     // What was taken, written and saved, and which statuses come when.
     ensures session { IsSession result (settings_of (texts_of words.now))
@@ -124,6 +132,7 @@ pub fn run<I: Source, O: Sink, D: Store>(
     match read_command_line(alloc, words) {
         Ok(Some(CommandLine::Run(settings))) => answer_script(alloc, settings, source, sink, store),
         Ok(Some(CommandLine::Demo(number))) => demo(alloc, number, sink),
+        Ok(Some(CommandLine::Check)) => check_store(alloc, sink, store),
         Ok(None) => Status::Usage,
         Err(NoMemory) => Status::NoMemory,
     }

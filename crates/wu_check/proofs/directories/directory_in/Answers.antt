@@ -1,4 +1,3 @@
-use Rattle.std.proofs.Common.{rules}
 use Rattle.std.specs.Prelude.{Option, None, Some, IfNone, MatchOption}
 use Rattle.wu_part.specs.Directories.{PartDirectory}
 use Rattle.wu_check.proofs.PartDirectories.{directory_of, none_read, other_told}

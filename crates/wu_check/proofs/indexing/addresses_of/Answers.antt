@@ -1,4 +1,4 @@
-use Rattle.std.proofs.Common.{◌≡◌, ◌++◌, ◌∷◌, ◌-◌, ◌+◌, ◌≤◌, ◌∙◌, [], List, ℕ, length, min, ap, sym, subst, rules}
+use Rattle.std.proofs.Common.{◌≡◌, ◌++◌, ◌+◌, ◌≤◌, ◌∙◌, [], List, ℕ, length, min, ap, sym, subst, rules}
 use Rattle.std.specs.Prelude.{IfNone}
 use Rattle.wu_vbyte.specs.declared.blocks.TheConstants.{BLOCK_LEN}
 use Rattle.wu_part.proofs.ReadBackLemmas.{IsAfter}

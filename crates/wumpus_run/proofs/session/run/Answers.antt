@@ -1,7 +1,8 @@
 use Rattle.std.proofs.Common.{Option, Some, ap, refl, sym, ◌∙◌, subst}
 use Rattle.wu_options.specs.CommandLines.{command_line_of, texts_of}
-use Rattle.wu_options.specs.declared.command_lines.CommandLine.TheVariants.{Run, Demo}
+use Rattle.wu_options.specs.declared.command_lines.CommandLine.TheVariants.{Run, Demo, Check}
 use Rattle.wu_options.specs.declared.command_lines.Settings.{Settings}
+use Rattle.wumpus_run.specs.Checks.{ChecksStore, IfCheck}
 use Rattle.wumpus_run.specs.Crashes.{Survives}
 use Rattle.wumpus_run.specs.Ended.{IsSession, KeepsBlobs, OpensOnly}
 use Rattle.wumpus_run.specs.Permitted.{AnswersInTurn, ReadsPermitted}
@@ -14,8 +15,8 @@ use Rattle.wumpus_run.proofs.RootRoom.{has_room}
 use Rattle.wumpus_run.proofs.AnsweredTurns.{answered-turns}
 use Rattle.wumpus_run.proofs.PutsAtEnd.{puts_none}
 use Rattle.wumpus_run.proofs.ReadsAtEnd.{permitted_untouched}
-use Rattle.wumpus_run.proofs.UnaskedSessions.{all_alone, alone_unasked, alone_unread, blobs_alone, blobs_unasked, by_line}
-use Rattle.wumpus_run.proofs.UnaskedSessions.{demo_asked, demo_only, none_told}
+use Rattle.wumpus_run.proofs.UnaskedSessions.{all_alone, alone_unasked, alone_unread, blobs_alone, blobs_unasked, by_line, check_asked, check_only}
+use Rattle.wumpus_run.proofs.UnaskedSessions.{demo_asked, demo_only, none_told, unchecked}
 use Rattle.wumpus_run.proofs.UnaskedSessions.{nothing_asked, permitted_unasked, session_unasked, survives_unasked, turns_unasked}
 use Rattle.wumpus_run.proofs.UnaskedSessions.{unread_session, unread_survives, usage_only}
 use Rattle.wumpus_run.proofs.session.run.Goals as goal
@@ -62,6 +63,11 @@ returns-in-Err-clause-opened g c =
 pub returns-in-Err-clause-untouched : goal.returns-in-Err-clause-untouched
 returns-in-Err-clause-untouched g c =
     all_alone (command_line_of (texts_of c.args.words.now)) c.args.source.now c.args.sink.now c.args.store.now
+
+pub returns-in-Err-clause-check : goal.returns-in-Err-clause-check
+returns-in-Err-clause-check g c =
+    unchecked (command_line_of (texts_of c.args.words.now))
+    (moment g.I.Source g.O.Sink g.D.Store c.args.source.now c.args.sink.now c.args.store.now) (g.D.Store.moments c.args.store.now)
 
 -- ---- a session
 
@@ -264,11 +270,21 @@ pub returns-in-Ok-None-clause-untouched : goal.returns-in-Ok-None-clause-untouch
 returns-in-Ok-None-clause-untouched g c =
     all_alone (command_line_of (texts_of c.args.words.now)) c.args.source.now c.args.sink.now c.args.store.now
 
+pub returns-in-Ok-None-clause-check : goal.returns-in-Ok-None-clause-check
+returns-in-Ok-None-clause-check g c =
+    by_line (λ line. IfCheck line _) _ (texts_of c.args.words.now) None c.in-Ok-None.field-0-is c.in-Ok-None.ensures tt
+
 pub returns-in-Ok-Some-Demo-clause-untouched : goal.returns-in-Ok-Some-Demo-clause-untouched
 returns-in-Ok-Some-Demo-clause-untouched g c =
     let is = c.in-Ok-Some-Demo in
     by_line (λ line. LeavesAlone line c.args.source.now c.args.source.now c.args.sink.now c.demo.new.sink c.args.store.now c.args.store.now)
     is.field-0 (texts_of c.args.words.now) (Some (Demo is.number)) (is.field-0-is ∙ ap Some is.field-0-0-is) is.ensures (refl, refl)
+
+pub returns-in-Ok-Some-Demo-clause-check : goal.returns-in-Ok-Some-Demo-clause-check
+returns-in-Ok-Some-Demo-clause-check g c =
+    let is = c.in-Ok-Some-Demo in
+    by_line (λ line. IfCheck line _) is.field-0 (texts_of c.args.words.now) (Some (Demo is.number))
+    (is.field-0-is ∙ ap Some is.field-0-0-is) is.ensures tt
 
 pub returns-in-Ok-Some-Run-clause-untouched : goal.returns-in-Ok-Some-Run-clause-untouched
 returns-in-Ok-Some-Run-clause-untouched g c =
@@ -276,3 +292,95 @@ returns-in-Ok-Some-Run-clause-untouched g c =
     by_line (λ line. LeavesAlone line c.args.source.now c.answer_script.new.source c.args.sink.now c.answer_script.new.sink
     c.args.store.now c.answer_script.new.store) is.field-0 (texts_of c.args.words.now) (Some (Run is.settings))
     (is.field-0-is ∙ ap Some is.field-0-0-is) is.ensures tt
+
+pub returns-in-Ok-Some-Run-clause-check : goal.returns-in-Ok-Some-Run-clause-check
+returns-in-Ok-Some-Run-clause-check g c =
+    let is = c.in-Ok-Some-Run in
+    by_line (λ line. IfCheck line _) is.field-0 (texts_of c.args.words.now) (Some (Run is.settings))
+    (is.field-0-is ∙ ap Some is.field-0-0-is) is.ensures tt
+
+-- ---- a check of the store
+
+pub returns-in-Ok-Some-Check-clause-session : goal.returns-in-Ok-Some-Check-clause-session
+returns-in-Ok-Some-Check-clause-session g c =
+    let before = moment g.I.Source g.O.Sink g.D.Store c.args.source.now c.args.sink.now c.args.store.now in
+    let now = moment g.I.Source g.O.Sink g.D.Store c.args.source.now c.check_store.new.sink c.check_store.new.store in
+    let told = settings_of (texts_of c.args.words.now) in
+    let is = c.in-Ok-Some-Check in
+    let none = check_asked is.field-0 (texts_of c.args.words.now) (is.field-0-is ∙ ap Some is.field-0-0-is) is.ensures in
+    let r = c.check_store.ensures in
+    session_unasked c.check_store.result told none before now
+    (check_only c.check_store.result before now refl r.found r.write_fault r.store_fault)
+
+pub returns-in-Ok-Some-Check-clause-turns : goal.returns-in-Ok-Some-Check-clause-turns
+returns-in-Ok-Some-Check-clause-turns g c =
+    let before = moment g.I.Source g.O.Sink g.D.Store c.args.source.now c.args.sink.now c.args.store.now in
+    let now = moment g.I.Source g.O.Sink g.D.Store c.args.source.now c.check_store.new.sink c.check_store.new.store in
+    let told = settings_of (texts_of c.args.words.now) in
+    let is = c.in-Ok-Some-Check in
+    let none = check_asked is.field-0 (texts_of c.args.words.now) (is.field-0-is ∙ ap Some is.field-0-0-is) is.ensures in
+    let r = c.check_store.ensures in
+    λ s image. turns_unasked c.check_store.result told none before now s
+
+pub returns-in-Ok-Some-Check-clause-permitted : goal.returns-in-Ok-Some-Check-clause-permitted
+returns-in-Ok-Some-Check-clause-permitted g c =
+    let before = moment g.I.Source g.O.Sink g.D.Store c.args.source.now c.args.sink.now c.args.store.now in
+    let now = moment g.I.Source g.O.Sink g.D.Store c.args.source.now c.check_store.new.sink c.check_store.new.store in
+    let told = settings_of (texts_of c.args.words.now) in
+    let is = c.in-Ok-Some-Check in
+    let none = check_asked is.field-0 (texts_of c.args.words.now) (is.field-0-is ∙ ap Some is.field-0-0-is) is.ensures in
+    let r = c.check_store.ensures in
+    λ s image. permitted_unasked c.check_store.result told none before now s _ _
+
+pub returns-in-Ok-Some-Check-clause-survives : goal.returns-in-Ok-Some-Check-clause-survives
+returns-in-Ok-Some-Check-clause-survives g c =
+    let before = moment g.I.Source g.O.Sink g.D.Store c.args.source.now c.args.sink.now c.args.store.now in
+    let now = moment g.I.Source g.O.Sink g.D.Store c.args.source.now c.check_store.new.sink c.check_store.new.store in
+    let told = settings_of (texts_of c.args.words.now) in
+    let is = c.in-Ok-Some-Check in
+    let none = check_asked is.field-0 (texts_of c.args.words.now) (is.field-0-is ∙ ap Some is.field-0-0-is) is.ensures in
+    let r = c.check_store.ensures in
+    λ s image. survives_unasked c.check_store.result told none before now s _ _
+
+pub returns-in-Ok-Some-Check-clause-blobs : goal.returns-in-Ok-Some-Check-clause-blobs
+returns-in-Ok-Some-Check-clause-blobs g c =
+    let before = moment g.I.Source g.O.Sink g.D.Store c.args.source.now c.args.sink.now c.args.store.now in
+    let now = moment g.I.Source g.O.Sink g.D.Store c.args.source.now c.check_store.new.sink c.check_store.new.store in
+    let told = settings_of (texts_of c.args.words.now) in
+    let is = c.in-Ok-Some-Check in
+    let none = check_asked is.field-0 (texts_of c.args.words.now) (is.field-0-is ∙ ap Some is.field-0-0-is) is.ensures in
+    let r = c.check_store.ensures in
+    blobs_unasked c.check_store.result told none before now r.holds
+
+pub returns-in-Ok-Some-Check-clause-opened : goal.returns-in-Ok-Some-Check-clause-opened
+returns-in-Ok-Some-Check-clause-opened g c =
+    let before = moment g.I.Source g.O.Sink g.D.Store c.args.source.now c.args.sink.now c.args.store.now in
+    let now = moment g.I.Source g.O.Sink g.D.Store c.args.source.now c.check_store.new.sink c.check_store.new.store in
+    let told = settings_of (texts_of c.args.words.now) in
+    let is = c.in-Ok-Some-Check in
+    let none = check_asked is.field-0 (texts_of c.args.words.now) (is.field-0-is ∙ ap Some is.field-0-0-is) is.ensures in
+    let r = c.check_store.ensures in
+    alone_unasked c.check_store.result told none before now refl r.holds _ _ r.moments
+
+pub returns-in-Ok-Some-Check-clause-untouched : goal.returns-in-Ok-Some-Check-clause-untouched
+returns-in-Ok-Some-Check-clause-untouched g c =
+    let before = moment g.I.Source g.O.Sink g.D.Store c.args.source.now c.args.sink.now c.args.store.now in
+    let now = moment g.I.Source g.O.Sink g.D.Store c.args.source.now c.check_store.new.sink c.check_store.new.store in
+    let told = settings_of (texts_of c.args.words.now) in
+    let is = c.in-Ok-Some-Check in
+    let none = check_asked is.field-0 (texts_of c.args.words.now) (is.field-0-is ∙ ap Some is.field-0-0-is) is.ensures in
+    let r = c.check_store.ensures in
+    by_line (λ line. LeavesAlone line c.args.source.now c.args.source.now c.args.sink.now c.check_store.new.sink c.args.store.now
+    c.check_store.new.store) is.field-0 (texts_of c.args.words.now) (Some Check) (is.field-0-is ∙ ap Some is.field-0-0-is) is.ensures refl
+
+pub returns-in-Ok-Some-Check-clause-check : goal.returns-in-Ok-Some-Check-clause-check
+returns-in-Ok-Some-Check-clause-check g c =
+    let before = moment g.I.Source g.O.Sink g.D.Store c.args.source.now c.args.sink.now c.args.store.now in
+    let now = moment g.I.Source g.O.Sink g.D.Store c.args.source.now c.check_store.new.sink c.check_store.new.store in
+    let told = settings_of (texts_of c.args.words.now) in
+    let is = c.in-Ok-Some-Check in
+    let none = check_asked is.field-0 (texts_of c.args.words.now) (is.field-0-is ∙ ap Some is.field-0-0-is) is.ensures in
+    let r = c.check_store.ensures in
+    by_line (λ line. IfCheck line (ChecksStore c.check_store.result before now (g.D.Store.moments c.args.store.now)
+    (g.D.Store.moments c.check_store.new.store))) is.field-0 (texts_of c.args.words.now) (Some Check)
+    (is.field-0-is ∙ ap Some is.field-0-0-is) is.ensures (record { found = r.found; holds = r.holds; moments = r.moments })

@@ -1,4 +1,4 @@
-use Rattle.std.proofs.Common.{◌≡◌, ℕ, ◌+◌, List, [], ◌∷◌, ◌++◌, length, length-append, map, ap, sym, ◌∙◌, arith}
+use Rattle.std.proofs.Common.{◌≡◌, ℕ, List, [], ◌∷◌, ◌++◌, length, length-append, map, ap, sym, ◌∙◌, arith}
 use Rattle.wu_token.specs.Words.{word_of}
 use Rattle.wu_token.specs.Tokens.{line_start, line_end}
 use Rattle.wu_token.specs.Places.{Piece, runs_at}

@@ -1,0 +1,102 @@
+use Rattle.std.proofs.Common.{◌≡◌, ℕ, ◌+◌, ◌-◌, ◌<◌, ◌≤◌, ◌∙◌, List, length, take, drop, get_or, arith, subst, sym}
+use Rattle.std.specs.Prelude.{Option, IfSome}
+use Rattle.std.specs.List.{AllByRecursion}
+use Rattle.std.proofs.lemmas.List.{take_rest}
+use Rattle.wu_image.specs.declared.records.FileRec.{FileRec}
+use Rattle.wu_check.specs.Walking.{FindsPart, FindsText}
+use Rattle.wu_check.proofs.SoundParts.{LiesIn}
+use Rattle.wu_check.proofs.Walks.{ends_parts, ends_text, no_part, own_apart, own_lie, reached_next, turn_parts, turn_text, turn_texts}
+use Rattle.wu_check.proofs.walking.first_wrong.Goals as goal
+
+pub check_part-requires-clause-apart : goal.check_part-requires-clause-apart
+check_part-requires-clause-apart g c =
+    own_apart c.loop-part.done (c.loop-part.done + c.count_started.result - c.loop-part.done) c.args.files.now c.requires.apart
+
+pub check_part-requires-clause-lie : goal.check_part-requires-clause-lie
+check_part-requires-clause-lie g c =
+    let files : List FileRec = c.args.files.now in
+    let parts = c.args.parts.now in
+    let i = c.loop-part.part-index in
+    let done = c.loop-part.done in
+    let n = c.count_started.result in
+    let within : i < length parts = omega arith in
+    let count : n ≡ done + n - done = omega arith in
+    let rest = take_rest files done in
+    let few : n ≤ length (drop done files) = subst (λ (l : List FileRec). n ≤ length l) rest c.count_started.ensures.within in
+    let started = subst
+    (λ (l : List FileRec). AllByRecursion (λ file. file.range.start ≤ (get_or parts i no_part).high) (take n l)) rest
+    c.count_started.ensures.started in
+    subst (λ (m : ℕ). AllByRecursion (LiesIn (get_or parts i no_part)) (take m (drop done files))) count
+    (own_lie files parts i done n within few c.loop-part.invariant.reached c.requires.files (c.requires.homes (omega arith)) started)
+
+pub returns-in-BrokenText-clause-found : goal.returns-in-BrokenText-clause-found
+returns-in-BrokenText-clause-found g c =
+    let files : List FileRec = c.args.files.now in
+    let parts = c.args.parts.now in
+    let i = c.loop-part.part-index in
+    let done = c.loop-part.done in
+    let n = c.count_started.result in
+    let within : i < length parts = omega arith in
+    let holds = g.D.Store.holds in
+    let few : n ≤ length (drop done files) =
+    subst (λ (l : List FileRec). n ≤ length l) (take_rest files done) c.count_started.ensures.within in
+    turn_text files parts i done n within few c.loop-part.invariant.reached
+    (holds c.args.store.now) (holds c.loop-part.store) c.loop-part.invariant.holds (done + n - done) (omega arith) c.in_ok-verdict.verdict
+    c.loop-part.invariant.texts c.in_ok-verdict.ensures.verdict c.in-BrokenText.blob c.in-BrokenText.is
+
+pub loop-part-preserved : goal.loop-part-preserved
+loop-part-preserved g c =
+    let files : List FileRec = c.args.files.now in
+    let parts = c.args.parts.now in
+    let i = c.loop-part.part-index in
+    let done = c.loop-part.done in
+    let n = c.count_started.result in
+    let within : i < length parts = omega arith in
+    let holds = g.D.Store.holds in
+    let rest = take_rest files done in
+    let few : n ≤ length (drop done files) = subst (λ (l : List FileRec). n ≤ length l) rest c.count_started.ensures.within in
+    let started = subst
+    (λ (l : List FileRec). AllByRecursion (λ file. file.range.start ≤ (get_or parts i no_part).high) (take n l)) rest
+    c.count_started.ensures.started in
+    let later = subst
+    (λ (l : List FileRec). AllByRecursion (λ file. (get_or parts i no_part).high < file.range.start) (drop n l)) rest
+    c.count_started.ensures.others in
+    let before = c.loop-part.invariant in
+    record {
+      holds = c.check_part.ensures.reads.holds ∙ before.holds;
+      moments = c.check_part.ensures.reads.moments ∙ before.moments;
+      calm = c.in_ok-verdict.ensures.reads.calm ∙ before.calm;
+      reached = reached_next files parts i done n within few before.reached started later;
+      texts =
+          turn_texts files parts i done n within few before.reached (holds c.args.store.now) (holds c.loop-part.store) before.holds
+          (done + n - done) (omega arith) c.in_ok-verdict.verdict before.texts c.in_ok-verdict.ensures.verdict
+          c.in_default.not-BrokenText c.requires.files later;
+      found =
+          subst
+          (λ (wrong : Option ℕ). IfSome (holds c.args.store.now) (λ content. FindsPart content files (take (i + 1) parts) wrong))
+          (sym c.leftmost-wrong.ensures)
+          (turn_parts files parts i done n within few before.reached (holds c.args.store.now) (holds c.loop-part.store) before.holds
+          (done + n - done) (omega arith) c.in_ok-verdict.verdict before.texts c.in_ok-verdict.ensures.verdict
+          c.in_default.not-BrokenText c.requires.files later c.loop-part.wrong before.found);
+    }
+
+pub returns-in-Some-clause-found : goal.returns-in-Some-clause-found
+returns-in-Some-clause-found g c =
+    let holds = g.D.Store.holds in
+    let files : List FileRec = c.args.files.now in
+    let found = subst
+    (λ (l : List FileRec). IfSome (holds c.loop-part.store) (λ content. FindsText content l c.in_ok-blob.field-0))
+    (take_rest files c.loop-part.done) c.in_ok-blob.ensures.found in
+    ends_text (holds c.args.store.now) (holds c.loop-part.store) c.loop-part.invariant.holds files c.args.parts.now
+    c.loop-part.done c.in_ok-blob.field-0 c.loop-part.invariant.texts found c.in-Some.blob c.in-Some.is
+
+pub returns-in-None-clause-found : goal.returns-in-None-clause-found
+returns-in-None-clause-found g c =
+    let holds = g.D.Store.holds in
+    let files : List FileRec = c.args.files.now in
+    let found = subst
+    (λ (l : List FileRec). IfSome (holds c.loop-part.store) (λ content. FindsText content l c.in_ok-blob.field-0))
+    (take_rest files c.loop-part.done) c.in_ok-blob.ensures.found in
+    ends_parts (holds c.args.store.now) (holds c.loop-part.store) c.loop-part.invariant.holds files c.args.parts.now
+    c.loop-part.done c.in_ok-blob.field-0 c.loop-part.invariant.texts found c.loop-part.part-index
+    c.loop-part.wrong (omega arith) c.in-None.is c.loop-part.invariant.found
