@@ -21,7 +21,7 @@ _wumpus_options() {
 
 _wumpus() {
     mapfile -t COMPREPLY < <(
-        compgen -W "run demo --max-input= --flush=" -- "${COMP_WORDS[COMP_CWORD]}"
+        compgen -W "run demo check --max-input= --flush=" -- "${COMP_WORDS[COMP_CWORD]}"
     )
 }
 

@@ -7,7 +7,7 @@ use Rattle.wumpus_run.specs.declared.statuses.Status.TheVariants.{StoreFault, Da
 -- the message of each status; a session that is done has none
 abbrev pub message_of : Status → List ℕ
 message_of Done = []
-message_of Usage = codes "usage: wumpus run [--max-input=N] [--flush=N] | wumpus demo N"
+message_of Usage = codes "usage: wumpus run [--max-input=N] [--flush=N] | wumpus demo N | wumpus check"
 message_of ReadFault = codes "cannot read the input"
 message_of WriteFault = codes "cannot write the output"
 message_of NoMemory = codes "no memory"

@@ -19,7 +19,7 @@ impl fmt::Display for Message {
             Status::Done => Ok(()),
             Status::Usage => write!(
                 f,
-                "usage: wumpus run [--max-input=N] [--flush=N] | wumpus demo N"
+                "usage: wumpus run [--max-input=N] [--flush=N] | wumpus demo N | wumpus check"
             ),
             Status::ReadFault => write!(f, "cannot read the input"),
             Status::WriteFault => write!(f, "cannot write the output"),
