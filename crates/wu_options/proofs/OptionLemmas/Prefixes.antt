@@ -7,11 +7,11 @@ use Rattle.clap.specs.Words.{Text}
 use Rattle.wu_base.specs.declared.limits.TheConstants.{INPUT_MAX, FLUSH_DEFAULT}
 use Rattle.wu_fields.specs.Numbers.{number_of}
 use Rattle.wu_options.specs.declared.command_lines.CommandLine.{CommandLine}
-use Rattle.wu_options.specs.CommandLines.{Key, Said, Sort, max_input, flush, at_least, asked_by, demo_by, number_in, without_options}
+use Rattle.wu_options.specs.CommandLines.{Key, Said, Sort, max_input, flush, at_least, asked_by, check_by, demo_by, number_in, without_options}
 use Rattle.wu_options.specs.CommandLines.{said_by, said_from, command_line_by, settings_by, settings_with, sort_of, value_before}
 use Rattle.wu_options.specs.CommandLines.{word_before}
 use Rattle.wu_options.specs.declared.command_lines.TheConstants.{FLUSH_MAX}
-use Rattle.wu_options.specs.declared.command_lines.CommandLine.TheVariants.{Run, Demo}
+use Rattle.wu_options.specs.declared.command_lines.CommandLine.TheVariants.{Run, Demo, Check}
 use Rattle.wu_options.specs.declared.command_lines.Settings.{Settings}
 use Rattle.wu_options.proofs.OptionLemmas.BuiltCommand.{IsHyphened}
 use Rattle.wu_options.proofs.OptionLemmas.SeenRows.{Seen, given_for, word_after, value_after}
@@ -86,6 +86,21 @@ no_demo flush said v more number e = rw e (go said.max_inputs)
     go [] = refl
     go (m ∷ ms) = refl
 
+-- so is there no check
+no_check : (key : Key) (said : Said) (v : Text) (more : List Text) → values_for key said ≡ v ∷ more → check_by said ≡ None
+no_check max_input said v more e = rw e refl
+no_check flush said v more e = rw e (go said.max_inputs)
+  where
+    go : (max_inputs : List Text) → without_options max_inputs (v ∷ more) (Some Check) ≡ None
+    go [] = refl
+    go (m ∷ ms) = refl
+
+alone_none : (run check : Bool) (settings : Option Settings) (line : Option CommandLine) → settings ≡ None → line ≡ None
+    → cond run (option_map Run settings) (cond check line None) ≡ None
+alone_none true check settings line none nothing = ap (λ (o : Option Settings). option_map Run o) none
+alone_none false true settings line none nothing = nothing
+alone_none false false settings line none nothing = refl
+
 -- a bad value of an option spoils the line
 pub lost_by : (key : Key) (said : Said) (v : Text) (more : List Text) → values_for key said ≡ v ∷ more → number_for key said ≡ None
     → command_line_by said ≡ None
@@ -93,9 +108,9 @@ lost_by key said v more given none = go said.words
   where
     go : (words : List Text) → asked_by said words ≡ None
     go [] = refl
-    go (command ∷ []) = ap (λ (o : Option Settings). cond (bytes_eq command (codes "run")) (option_map Run o) None)
-        (no_settings key said none)
-        ∙ same_none (bytes_eq command (codes "run"))
+    go (command ∷ []) =
+        alone_none (bytes_eq command (codes "run")) (bytes_eq command (codes "check")) (settings_by said) (check_by said)
+        (no_settings key said none) (no_check key said v more given)
     go (command ∷ number ∷ []) = ap (λ (o : Option ℕ). cond (bytes_eq command (codes "demo")) (option_map Demo o) None)
         (no_demo key said v more number given) ∙ same_none (bytes_eq command (codes "demo"))
     go (command ∷ number ∷ other ∷ rest) = refl
@@ -147,7 +162,7 @@ no_number said number h =
     (ap (λ (text : Text). number_of text (2 ^ 64 - 1)) h.2 ∙ hyphened_number h.0 h.1 (2 ^ 64 - 1))
     ∙ go said.max_inputs said.flushes
   where
-    go : (max_inputs flushes : List Text) → without_options max_inputs flushes None ≡ None
+    go : (max_inputs flushes : List Text) → without_options {X = ℕ} max_inputs flushes None ≡ None
     go [] [] = refl
     go [] (f ∷ fs) = refl
     go (m ∷ ms) flushes = refl
