@@ -23,7 +23,7 @@ use wu_ask::Query;
 use wu_base::{NoMemory, Trouble};
 use wu_engine::{Engine, Verdict};
 use wu_outside::Store;
-use wu_script::{Command, Item, Reply, Why, put_reply};
+use wu_script::{Command, Item, Reply, Why, move_reply};
 use wu_tree::Event;
 
 /// Appends the bytes of the item's reply, if it has one: what [`reply_to`] answers, and under the
@@ -61,7 +61,7 @@ pub fn answer<D: Store>(
     ensures damaged { BlamesNone engine.old (D.holds store.old) result }
 {
     match reply_to(engine, store, item)? {
-        Some(reply) => Ok(put_reply(out, &reply)?),
+        Some(reply) => Ok(move_reply(out, reply)?),
         None => Ok(()),
     }
 }
