@@ -13,9 +13,9 @@ use std::marker::Model;
 use wu_base::{Bytes, NoMemory};
 use wu_view::Seen;
 
-/// The script of an export that is being written: it is made of the paths of all files, and is given one file
-/// after the other, so that no more than one text need be in memory beside it. Contracts see the paths of the
-/// directories, and the bytes that are written.
+/// The script of an export that is being written: it is made of the paths of all files, and is
+/// given one file after the other, so that no more than one text need be in memory beside it.
+/// Contracts see the paths of the directories, and the bytes that are written.
 #[derive(Drop)]
 pub struct Exporter<'a> {
     directories: Directories<'a>,
@@ -31,8 +31,9 @@ impl<'a> Model for Exporter<'a> {
 }
 
 impl<'a> Exporter<'a> {
-    /// A script that makes the directories on the paths of these files, and has no file yet. `texts` is how
-    /// many bytes their texts have: a wish for memory, which is taken at once. The only error is out of memory.
+    /// A script that makes the directories on the paths of these files, and has no file yet.
+    /// `texts` is how many bytes their texts have: a wish for memory, which is taken at once. The
+    /// only error is out of memory.
     pub fn new(alloc: Global, view: &'a [Seen], texts: usize) -> Result<Exporter<'a>, NoMemory>
         ensures { IfOk result (λ exporter. exporter ≡ begun (flat_map (λ seen. seen.paths) view.now)) }
     {
@@ -73,9 +74,9 @@ impl<'a> Exporter<'a> {
         })
     }
 
-    /// The script with the file at that place of the view, the first of which is 0: the file is made at its
-    /// least path and linked at its others, and given its text, where that isn't empty. The only error is out
-    /// of memory.
+    /// The script with the file at that place of the view, the first of which is 0: the file is
+    /// made at its least path and linked at its others, and given its text, where that isn't empty.
+    /// The only error is out of memory.
     pub fn with_file(
         self,
         place: usize,
@@ -116,8 +117,8 @@ fn add_paths<'a>(found: &mut Vec<Path<'a>>, paths: &'a [Bytes]) -> Result<(), No
     Ok(())
 }
 
-/// How many bytes so many texts have with the lines before them, where the texts have that many. It is a wish
-/// for memory alone, and no promise.
+/// How many bytes so many texts have with the lines before them, where the texts have that many. It
+/// is a wish for memory alone, and no promise.
 fn room_of_texts(files: usize, texts: usize) -> usize {
     files.saturating_mul(COMMAND_MAX).saturating_add(texts)
 }

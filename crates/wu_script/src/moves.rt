@@ -7,8 +7,8 @@ use crate::types::Reply;
 use wu_ask::Answered;
 use wu_base::NoMemory;
 
-/// Appends what `put_reply` appends, and lets the reply go. The script of an export isn't copied: `out` goes on
-/// in its vector. The one error is `NoMemory`; `out` is then as it was.
+/// Appends what `put_reply` appends, and lets the reply go. The script of an export isn't copied:
+/// `out` goes on in its vector. The one error is `NoMemory`; `out` is then as it was.
 #[tactic(auto, unfolding(crate::specs::Replies::reply_bytes, crate::specs::Replies::answer_bytes))]
 pub fn move_reply(out: &mut Vec<u8>, reply: Reply) -> Result<(), NoMemory>
     ensures ok { OnOk result (out.new.items ≡ out.old.items ++ reply_bytes reply) }
@@ -23,7 +23,8 @@ pub fn move_reply(out: &mut Vec<u8>, reply: Reply) -> Result<(), NoMemory>
 /// Appends an export: the number of the script's bytes on a line of its own, these bytes, and a LF.
 fn move_export(out: &mut Vec<u8>, script: Vec<u8>) -> Result<(), NoMemory>
     ensures ok { OnOk result (out.new.items ≡ out.old.items
-        ++ (codes "export\t" ++ decimal (length script.items) ++ 10 ∷ [] ++ script.items ++ 10 ∷ [])) }
+        ++ (codes "export\t" ++ decimal (length script.items) ++ 10 ∷ []
+        ++ script.items ++ 10 ∷ [])) }
     ensures err { OnErr result (out.new.items ≡ out.old.items) }
 {
     let mut whole = script;
