@@ -144,11 +144,11 @@ def some_rights(draw: random.Random) -> Rights:
 
 def some_tree(draw: random.Random, old: Tree, following: int) -> tuple[Tree, int]:
     """A tree in which most nodes of an old one are again, at other places and with other rights."""
-    tree = Tree({ROOT: Node(ROOT, True, some_rights(draw), b"", (0, 0), 1, 0)}, {ROOT: {}})
+    tree = Tree({ROOT: Node(ROOT, True, some_rights(draw), b"", 0, 1, 0)}, {ROOT: {}})
     kept = [node for node in old.nodes.values() if node.number != ROOT and draw.random() < 0.8]
     draw.shuffle(kept)
     for _ in range(draw.randrange(5)):
-        kept.append(Node(following, draw.random() < 0.5, Rights(0, 0, 0), b"", (0, 0), 1, 0))
+        kept.append(Node(following, draw.random() < 0.5, Rights(0, 0, 0), b"", 0, 1, 0))
         following += 1
     for node in kept:
         again = draw.random() < 0.5
@@ -156,7 +156,7 @@ def some_tree(draw: random.Random, old: Tree, following: int) -> tuple[Tree, int
         same = node.is_directory or draw.random() < 0.5
         text = node.digest if same else b"%d" % draw.randrange(3)
         tree.nodes[node.number] = Node(
-            node.number, node.is_directory, rights, text, (0, 0), draw.randrange(9), 0
+            node.number, node.is_directory, rights, text, 0, draw.randrange(9), 0
         )
         if node.is_directory:
             tree.entries[node.number] = {}
@@ -213,7 +213,7 @@ def history(seed: int) -> None:
     draw = random.Random(seed)
     model = Model({ROOT: Rights(0o755, 0, 0), CLOSED: Rights(0, 0, 0)}, {}, {})
     model.entries = {ROOT: {b"closed": CLOSED}, CLOSED: {}}
-    first = Node(ROOT, True, Rights(0o755, 0, 0), b"", (0, 0), 1, 0)
+    first = Node(ROOT, True, Rights(0o755, 0, 0), b"", 0, 1, 0)
     tree, following = Tree({ROOT: first}, {ROOT: {}}), 4
     users: Groups = {}
     for _ in range(12):

@@ -184,8 +184,9 @@ class Changes:
     def _entries(self) -> bytes:
         draw = self.draw
         none = 0xFFFFFFFF
-        users = sorted(draw.sample(self.users, draw.randrange(4)))
-        groups = sorted(draw.sample(self.groups, draw.randrange(4)))
+        # Linux takes them in any order, and several of one user or group.
+        users = draw.choices(self.users, k=draw.randrange(4))
+        groups = draw.choices(self.groups, k=draw.randrange(4))
         entries = [(1, draw.randrange(8), none)]
         entries += [(2, draw.randrange(8), user) for user in users]
         entries += [(4, draw.randrange(8), none)]

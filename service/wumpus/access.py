@@ -5,10 +5,12 @@ import os
 import struct
 
 from .nodes import Rights
+from .script import LINE_MAX
 
 ATTRIBUTE = "system.posix_acl_access"
 _VERSION = 2
 _OWNER, _USER, _OWNING, _GROUP, _MASK, _OTHER = 1, 2, 4, 8, 16, 32
+ENTRIES_MAX = LINE_MAX - len(b"acl\t4294967295\t")
 _ABSENT = {errno.ENODATA, errno.EOPNOTSUPP, errno.ENOSYS}
 
 
@@ -20,7 +22,7 @@ def entries_of(value: bytes) -> bytes:
     """The entries as the line `acl` has them, empty where the mode alone decides.
 
     Linux asks no list whose mask is empty, where the language does; so such a list is left out.
-    Raises `BadList` where the bytes have another form.
+    Raises `BadList` where the bytes have another form, or no line has room for them.
     """
     if len(value) < 4 or (len(value) - 4) % 8 or struct.unpack_from("<I", value)[0] != _VERSION:
         raise BadList("an access list of an unknown version")
@@ -29,15 +31,25 @@ def entries_of(value: bytes) -> bytes:
     if not masks or masks[0] == 0:
         return b""
     owning = [bits for tag, bits, _ in found if tag == _OWNING]
-    users = sorted((number, bits) for tag, bits, number in found if tag == _USER)
-    groups = sorted((number, bits) for tag, bits, number in found if tag == _GROUP)
+    users: dict[int, int] = {}
+    groups: dict[int, int] = {}
+    for tag, bits, number in found:
+        # Linux takes entries in any order, and several of one number, and asks so: the first one
+        # of a user, and any one of a group.
+        if tag == _USER:
+            users.setdefault(number, bits)
+        elif tag == _GROUP:
+            groups[number] = groups.get(number, 0) | bits
     known = {_OWNER, _USER, _OWNING, _GROUP, _MASK, _OTHER}
     if len(owning) != 1 or len(masks) != 1 or any(tag not in known for tag, _, _ in found):
         raise BadList("an access list with entries that are unknown")
     spelled = [b"g::%d" % owning[0]]
-    spelled += [b"u:%d:%d" % entry for entry in users]
-    spelled += [b"g:%d:%d" % entry for entry in groups]
-    return b",".join(spelled) + b",m::%d" % masks[0]
+    spelled += [b"u:%d:%d" % entry for entry in sorted(users.items())]
+    spelled += [b"g:%d:%d" % entry for entry in sorted(groups.items())]
+    entries = b",".join(spelled) + b",m::%d" % masks[0]
+    if len(entries) > ENTRIES_MAX:
+        raise BadList("an access list that is longer than a line of the program's")
+    return entries
 
 
 def entries_at(descriptor: int) -> bytes:

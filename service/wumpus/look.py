@@ -12,7 +12,7 @@ from collections.abc import Callable, Iterator
 from dataclasses import dataclass
 
 from .access import BadList, rights_at
-from .nodes import Node, Rights
+from .nodes import Node, Rights, identity_of
 from .script import TEXT_MAX
 from .walk import ATTEMPTS, DIRECTORY_FLAGS, Found, Torn, Way, wait_until_old
 
@@ -52,10 +52,11 @@ def places_of(top: Found) -> Iterator[Place]:
 def _places_below(way: list[tuple[bytes, Found]], seen: set[int]) -> Iterator[Place]:
     directories = []
     for name, child in way[-1][1].entries.items():
-        if child.is_directory:
+        if isinstance(child, Found) and child.is_directory:
             directories.append((name, child))
-        elif child.fresh and not child.torn and child.number not in seen:
-            seen.add(child.number)
+        elif isinstance(child, Found) and not child.torn and child.number not in seen:
+            if child.links > 1:
+                seen.add(child.number)
             yield Place(way, name, child)
     for one in directories:
         yield from _places_below([*way, one], seen)
@@ -138,7 +139,7 @@ class Looker:
 
         One with several names must have stayed as it was: the other names aren't looked at again.
         """
-        if (status.st_dev, status.st_ino) != found.identity or not stat.S_ISREG(status.st_mode):
+        if identity_of(status) != found.identity or not stat.S_ISREG(status.st_mode):
             raise Unstable
         if found.links > 1 and status.st_ctime_ns != found.changed:
             raise Unstable

@@ -10,12 +10,12 @@ from .batch import CLOSED_NAME, Batch, Texts, question
 from .look import Looked, Looker, Place, places_of
 from .nodes import MARK, ROOT, Identity, Node, Rights, Tree
 from .number import directories_of, give_numbers
-from .plan import Groups, Plan, plan_all, plan_nodes
+from .plan import Groups, Pairs, Plan, plan_all, plan_nodes
 from .progress import Progress
 from .reach import Failed, Reach
 from .script import spell
 from .state import Addition, BadState, Files, State, apply, new_serial, read_state
-from .walk import ATTEMPTS, Found, Limits, Walk
+from .walk import ATTEMPTS, Found, Limits, Seen, Walk
 
 TEXTS_AT_MOST = 64 << 20  # bytes of texts in a batch
 
@@ -52,7 +52,6 @@ class Turn:
         self.folder = folder
         self.report = Report()
         self.waiting: list[Place] = []
-        self.pairs: list[tuple[Node, Node]] = []
 
     def walk(self) -> Walk:
         """Walks until nothing is torn, at most five times."""
@@ -66,6 +65,7 @@ class Turn:
     def _walk_once(self, by_identity: dict[Identity, Node]) -> Walk:
         progress = self.progress
         walk = Walk(
+            self.state.tree,
             by_identity,
             self.wish.limits,
             progress.warn,
@@ -86,13 +86,22 @@ class Turn:
         tree = Tree()
         for directory in directories_of(walk.top):
             tree.nodes[directory.number] = self._directory(directory)
-            tree.entries[directory.number] = {
-                name: child.number for name, child in directory.entries.items()
-            }
+            names = {name: child.number for name, child in directory.entries.items()}
+            before = self.state.tree.entries.get(directory.number)
+            tree.entries[directory.number] = before if before == names else names
             for child in directory.entries.values():
-                if not child.is_directory and child.number not in tree.nodes:
-                    tree.nodes[child.number] = self._file(child)
+                if not child.is_directory:
+                    self._put_file(tree, child)
         return tree
+
+    def _put_file(self, tree: Tree, seen: Seen) -> None:
+        """Puts a file's node into the tree, once: one that has to be looked at before the other."""
+        before = tree.nodes.get(seen.number)
+        self.report.files += before is None
+        if isinstance(seen, Node):
+            tree.nodes.setdefault(seen.number, seen)
+        elif before is None or before is seen.known:
+            tree.nodes[seen.number] = self._file(seen)
 
     def _directory(self, found: Found) -> Node:
         """A directory's node: shut where it is torn, or has a list that the program can't take."""
@@ -107,11 +116,8 @@ class Turn:
         return old if old is not None and old == node else node
 
     def _file(self, found: Found) -> Node:
-        """A file's node: what it is known as, or shut until it is looked at."""
-        self.report.files += 1
+        """The node of a file that has to be looked at: shut until it is."""
         old = self.state.tree.nodes.get(found.number)
-        if not found.fresh and found.known is not None:
-            return found.known
         self.report.fresh += 1
         if found.torn:
             self.report.shut += 1
@@ -126,19 +132,27 @@ class Turn:
             return rights.shut(), 0
         return rights, changed
 
-    def look(self, tree: Tree, looker: Looker, places: Iterator[Place], texts: Texts) -> bool:
+    def look(
+        self,
+        tree: Tree,
+        looker: Looker,
+        places: Iterator[Place],
+        texts: Texts,
+        pairs: Pairs | None = None,
+    ) -> bool:
         """Looks at files until a batch is full, and puts their nodes into the tree.
 
-        Tells whether there may be more.
+        Tells whether there may be more. `pairs` gets each node before and after.
         """
-        self.pairs = []
         for place in places:
             looked = looker.look(place)
             self.report.looked += 1
             if looked is None:
                 self.report.shut += 1
                 continue
-            self._take(tree, looked, texts)
+            before = self._take(tree, looked, texts)
+            if pairs is not None:
+                pairs.append((before, looked.node))
             self._tell()
             if texts.size >= TEXTS_AT_MOST:
                 return True
@@ -149,17 +163,20 @@ class Turn:
         done, left = self.report.looked, self.report.fresh - self.report.looked
         self.progress.tell(f"{done} files looked at, {left} left, {self.report.size >> 20} MiB")
 
-    def _take(self, tree: Tree, looked: Looked, texts: Texts) -> None:
-        """Puts a file that was looked at into the tree and its text, where it differs, beside."""
+    def _take(self, tree: Tree, looked: Looked, texts: Texts) -> Node:
+        """Puts a file that was looked at into the tree and its text, where it differs, beside.
+
+        Gives the node that it had before.
+        """
         node = looked.node
         before = tree.nodes[node.number]
         node.rights, node.changed = self._listed(node.rights, node.changed)
         tree.nodes[node.number] = node
-        self.pairs.append((before, node))
         if node.digest != before.digest:
             texts.add(node.number, looked.text)
             self.report.texts += 1
             self.report.size += len(looked.text)
+        return before
 
 
 class Mirror:
@@ -271,13 +288,14 @@ class Mirror:
     def _next(self, turn: Turn, looker: Looker, places: Iterator[Place]) -> bool:
         """A later batch, with texts and the rights of their files alone."""
         texts = Texts(self.folder)
+        pairs: Pairs = []
         try:
-            more = turn.look(self.state.tree, looker, places, texts)
-            if turn.pairs:
-                nodes = [after for _, after in turn.pairs]
+            more = turn.look(self.state.tree, looker, places, texts, pairs)
+            if pairs:
+                nodes = [after for _, after in pairs]
                 addition = Addition(new_serial(self.state.serial), nodes)
                 self.files.add(addition)
-                plan = plan_nodes(turn.pairs)
+                plan = plan_nodes(pairs)
                 self._feed(turn, self.state.serial, addition.serial, plan, texts)
                 apply(self.state, addition)
         finally:

@@ -11,7 +11,7 @@ from types import FrameType
 
 from . import VERSION
 from .mirror import Mirror, Report, Wish, dry_run
-from .nodes import Identity
+from .nodes import Identity, identity_of
 from .progress import Progress, plain
 from .reach import CONTROL, Direct, Failed, Served, only_one
 from .state import BadState
@@ -49,11 +49,9 @@ def parser() -> argparse.ArgumentParser:
 
 def wish_of(given: argparse.Namespace, folder: Path) -> Wish:
     """What the options ask for. Raises `BadUsers`, and `OSError`."""
-    omitted: set[Identity] = set()
-    status = folder.stat()
-    omitted.add((status.st_dev, status.st_ino))
+    omitted: frozenset[Identity] = frozenset([identity_of(folder.stat())])
     excludes = tuple(os.fsencode(pattern) for pattern in given.exclude)
-    limits = Limits(excludes, given.one_file_system, frozenset(omitted))
+    limits = Limits(excludes, given.one_file_system, omitted)
     users = of_file(Path(given.users)) if given.users else of_system()
     return Wish(tuple(os.fsencode(root) for root in given.roots), limits, users)
 

@@ -1,5 +1,6 @@
 """Files and directories as the program has them: rights, nodes, and the tree of their names."""
 
+import os
 from collections.abc import Iterator
 from dataclasses import dataclass, field
 from typing import NamedTuple
@@ -9,7 +10,27 @@ CLOSED = 2  # the mirror's own directory, mode 000: what moves goes through it
 MARK = 3  # the directory in it whose name tells which batch was the last
 FIRST = 4  # the least number of a node that stands for a real one
 
-Identity = tuple[int, int]  # device and inode
+Identity = int  # of a device and an inode: one small object, where very many are kept
+
+
+def identity_of(status: os.stat_result) -> Identity:
+    """Tells the node of this status from any other one that is there at the same time."""
+    return identity_at(status.st_dev, status.st_ino)
+
+
+def identity_at(device: int, inode: int) -> Identity:
+    """The identity of this inode of this device; an inode's number has at most 64 bits."""
+    return device << 64 | inode
+
+
+def device_of(identity: Identity) -> int:
+    """The device."""
+    return identity >> 64
+
+
+def inode_of(identity: Identity) -> int:
+    """The inode's number."""
+    return identity & (1 << 64) - 1
 
 
 class Rights(NamedTuple):
@@ -70,7 +91,7 @@ class Tree:
 
 def first_tree() -> Tree:
     """The tree of a program to which nothing was told: the root, and nothing in it."""
-    root = Node(ROOT, True, Rights(0o755, 0, 0), b"", (0, 0), 0, 0)
+    root = Node(ROOT, True, Rights(0o755, 0, 0), b"", 0, 0, 0)
     return Tree({ROOT: root}, {ROOT: {}})
 
 

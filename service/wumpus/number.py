@@ -7,15 +7,19 @@ writes anew and renames is a change of text, and devices may be numbered anew.
 
 from collections.abc import Iterator
 
-from .nodes import FIRST, ROOT, Tree
+from .nodes import FIRST, ROOT, Node, Tree
 from .script import NUMBER_MAX
 from .walk import Found, Walk
 
 
 class Numbers:
-    """The numbers that are in use, and the next one to try."""
+    """The numbers that are in use, and the next one to try.
 
-    def __init__(self, used: set[int], following: int) -> None:
+    They are drawn upwards and begin again at their end, so one that was drawn doesn't come again
+    before four billion others.
+    """
+
+    def __init__(self, used: dict[int, Node], following: int) -> None:
         self.used = used
         self.following = following
 
@@ -23,8 +27,8 @@ class Numbers:
         """A number that isn't in use."""
         while self.following in self.used or not FIRST <= self.following <= NUMBER_MAX:
             self.following = FIRST if self.following >= NUMBER_MAX else self.following + 1
-        self.used.add(self.following)
-        return self.following
+        self.following += 1
+        return self.following - 1
 
 
 def give_numbers(walk: Walk, old: Tree, following: int) -> int:
@@ -32,30 +36,41 @@ def give_numbers(walk: Walk, old: Tree, following: int) -> int:
 
     Gives the number to be tried first the next time.
     """
-    numbers = Numbers(set(old.nodes), following)
-    claimed = {ROOT}
+    numbers = Numbers(old.nodes, following)
     for found in walk.found.values():
-        found.number = found.links = 0
-        if found.known is not None and found.known.number != ROOT:
-            found.number = found.known.number
-            claimed.add(found.number)
+        if isinstance(found, Found):
+            known = found.known
+            found.number = known.number if known is not None and known.number != ROOT else 0
+            found.links = 0
     walk.top.number = ROOT
+    taken = {ROOT}
     for directory in directories_of(walk.top):
         places = old.entries.get(directory.number, {})
         for name, child in directory.entries.items():
+            if isinstance(child, Node):
+                continue
             child.links += 1
             if child.number == 0:
-                before = places.get(name)
-                if before is None or before in claimed or not _is_like(old, before, child):
-                    before = numbers.draw()
-                child.number = before
-                claimed.add(before)
+                child.number = _of_place(walk, old, places.get(name), child, taken)
+                child.number = child.number or numbers.draw()
     return numbers.following
 
 
-def _is_like(old: Tree, number: int, found: Found) -> bool:
-    """Whether the node of that number is of the kind that was found."""
-    return old.nodes[number].is_directory == found.is_directory
+def _of_place(walk: Walk, old: Tree, before: int | None, found: Found, taken: set[int]) -> int:
+    """The number of the node that was at the place before; 0 where it isn't free, or no like."""
+    if before is None or before in taken:
+        return 0
+    node = old.nodes[before]
+    if node.is_directory != found.is_directory or _is_found(walk, node):
+        return 0
+    taken.add(before)
+    return before
+
+
+def _is_found(walk: Walk, node: Node) -> bool:
+    """Whether the node is found again, somewhere."""
+    seen = walk.found.get(node.identity)
+    return seen is node or isinstance(seen, Found) and seen.known is node
 
 
 def directories_of(top: Found) -> Iterator[Found]:
@@ -64,4 +79,6 @@ def directories_of(top: Found) -> Iterator[Found]:
     while waiting:
         directory = waiting.pop()
         yield directory
-        waiting += [child for child in directory.entries.values() if child.is_directory]
+        for child in directory.entries.values():
+            if isinstance(child, Found) and child.is_directory:
+                waiting.append(child)

@@ -14,6 +14,7 @@ from .nodes import CLOSED, ROOT, Node, Rights, Tree, meet
 from .script import spell, spell_mode
 
 Groups = dict[int, tuple[int, ...]]
+Pairs = list[tuple[Node, Node]]  # of one node each, before and after
 Links = dict[int, list[tuple[int, bytes]]]
 NOBODY = b"g::0,m::0"
 
@@ -31,20 +32,20 @@ def changes_of(old: Tree, new: Tree) -> Changes:
     changes = Changes()
     for parent, names in old.entries.items():
         others = new.entries.get(parent, {})
-        if names != others:
+        if names is not others and names != others:
             for name, child in names.items():
                 if others.get(name) != child:
                     changes.going.setdefault(child, []).append((parent, name))
     for parent, names in new.entries.items():
         others = old.entries.get(parent, {})
-        if names != others:
+        if names is not others and names != others:
             for name, child in names.items():
                 if others.get(name) != child:
                     changes.coming.setdefault(child, []).append((parent, name))
     return changes
 
 
-def changed_nodes(old: Tree, new: Tree) -> list[tuple[Node, Node]]:
+def changed_nodes(old: Tree, new: Tree) -> Pairs:
     """The nodes of both trees that have other rights or another text, before and after."""
     pairs = []
     for number, node in new.nodes.items():
@@ -63,7 +64,7 @@ def taken(before: Node, after: Node) -> Rights:
     return meet(before.rights, after.rights)
 
 
-def take_rights(pairs: list[tuple[Node, Node]]) -> Iterator[bytes]:
+def take_rights(pairs: Pairs) -> Iterator[bytes]:
     """Takes away what nobody is to have any more."""
     for before, after in pairs:
         mode = taken(before, after).mode
@@ -71,7 +72,7 @@ def take_rights(pairs: list[tuple[Node, Node]]) -> Iterator[bytes]:
             yield spell(b"chmod", before.number, spell_mode(mode))
 
 
-def give_rights(pairs: list[tuple[Node, Node]]) -> Iterator[bytes]:
+def give_rights(pairs: Pairs) -> Iterator[bytes]:
     """Gives what everybody is to have now, after `take_rights`."""
     for before, after in pairs:
         left = Rights(taken(before, after).mode, *before.rights[1:])
@@ -236,6 +237,6 @@ def plan_all(old: Tree, new: Tree, old_users: Groups, new_users: Groups) -> Plan
     return Plan(head, tail)
 
 
-def plan_nodes(pairs: list[tuple[Node, Node]]) -> Plan:
+def plan_nodes(pairs: Pairs) -> Plan:
     """From some nodes to what they are now; no name changes."""
     return Plan(list(take_rights(pairs)), list(give_rights(pairs)))

@@ -42,9 +42,19 @@ def unescape(field: bytes) -> bytes | None:
 
 
 def spell(*fields: bytes | int) -> bytes:
-    """The line of these fields, with its LF: numbers in decimal, byte strings escaped."""
-    spelled = [b"%d" % field if isinstance(field, int) else escape(field) for field in fields]
-    return b"\t".join(spelled) + b"\n"
+    """The line of these fields, with its LF: numbers in decimal, byte strings escaped.
+
+    A number that no line can have raises `ValueError`, so that none is refused for its form.
+    """
+    return b"\t".join([_spell_field(field) for field in fields]) + b"\n"
+
+
+def _spell_field(field: bytes | int) -> bytes:
+    if not isinstance(field, int):
+        return escape(field)
+    if not 0 <= field <= NUMBER_MAX:
+        raise ValueError(f"{field} is no number of a line")
+    return b"%d" % field
 
 
 def spell_user(user: int, groups: tuple[int, ...]) -> bytes | None:

@@ -15,7 +15,7 @@ from dataclasses import dataclass, field
 from pathlib import Path
 from typing import Any
 
-from .nodes import FIRST, Node, Rights, Tree, first_tree
+from .nodes import FIRST, Node, Rights, Tree, device_of, first_tree, identity_at, inode_of
 from .plan import Groups
 
 FORMAT = 1
@@ -66,7 +66,8 @@ def _spell_node(node: Node) -> list[Any]:
         rights.group,
         rights.entries.decode("ascii"),
         node.digest.hex(),
-        *node.identity,
+        device_of(node.identity),
+        inode_of(node.identity),
         node.changed,
         node.size,
     ]
@@ -85,7 +86,7 @@ class _Reader:
         rights = self.rights.get(key)
         if rights is None:
             rights = self.rights[key] = Rights(mode, owner, group, entries.encode("ascii"))
-        identity = (device, inode)
+        identity = identity_at(device, inode)
         text = bytes.fromhex(digest)
         return Node(number, bool(directory), rights, text, identity, changed, size)
 
@@ -150,10 +151,13 @@ def _read_directory(reader: _Reader, tree: Tree, line: str) -> None:
     node, names, children, files = json.loads(line)
     directory = reader.node(node)
     tree.nodes[directory.number] = directory
-    tree.entries[directory.number] = dict(zip(map(os.fsencode, names), children))
+    numbers: dict[int, int] = {}  # a number is one object, however often it was told
     for file in files:
         told = reader.node(file)
         tree.nodes[told.number] = told
+        numbers[told.number] = told.number
+    children = [numbers.get(child, child) for child in children]
+    tree.entries[directory.number] = dict(zip(map(os.fsencode, names), children))
 
 
 def _read_addition(reader: _Reader, line: str) -> Addition:

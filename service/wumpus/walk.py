@@ -19,7 +19,7 @@ from collections.abc import Callable
 from dataclasses import dataclass, field
 
 from .access import BadList, rights_at
-from .nodes import Identity, Node, Rights
+from .nodes import Identity, Node, Rights, Tree, device_of, identity_of
 from .script import DEPTH_MAX, NAME_MAX
 
 ATTEMPTS = 5
@@ -45,11 +45,11 @@ class BadRoot(Exception):
 
 @dataclass(slots=True)
 class Found:
-    """A file or directory that the walk saw. `known` is the node that it is known as.
+    """A directory that the walk saw, or a file that has to be looked at.
 
-    For a file whose status is the known one nothing has to be looked at again, and `fresh` is
-    False. `rights` are a directory's own. `number` and `links`, the count of its names, are set
-    when the walk is done.
+    `known` is the node that it is known as. A file whose status is the known one has no `Found`:
+    its node itself stands for it. `rights` are a directory's own. `number` and `links`, the count
+    of its names, are set when the walk is done.
     """
 
     identity: Identity
@@ -58,14 +58,14 @@ class Found:
     rights: Rights | None
     changed: int
     size: int
-    fresh: bool
     torn: bool = False
     links: int = 0
     number: int = 0
-    entries: "dict[bytes, Found]" = field(default_factory=dict)
+    entries: "dict[bytes, Seen]" = field(default_factory=dict)
 
 
-_NO_ENTRIES: dict[bytes, Found] = {}  # of all files
+Seen = Found | Node
+_NO_ENTRIES: dict[bytes, Seen] = {}  # of all files
 
 
 @dataclass(slots=True)
@@ -142,7 +142,7 @@ class Way:
         except OSError as error:
             self._tear(step.found)
             raise Torn from error
-        if (status.st_dev, status.st_ino) != step.found.identity:
+        if identity_of(status) != step.found.identity:
             self._tear(step.found)
             raise Torn
         return status
@@ -188,23 +188,35 @@ def file_systems_left_out() -> frozenset[int]:
     return frozenset(devices)
 
 
+def _is_as_known(known: Node, status: os.stat_result) -> bool:
+    """Whether nothing of a file changed since its node was made."""
+    plain = (status.st_mode & 0o7777, status.st_uid, status.st_gid)
+    same = known.changed == status.st_ctime_ns and known.size == status.st_size
+    return same and known.rights[:3] == plain
+
+
 class Walk:
-    """One walk. `top` is `/` afterwards, and `found` all that was seen, by identity."""
+    """One walk. `top` is `/` afterwards, and `found` all that was seen, by identity.
+
+    `old` is the tree that the program has, and `known` its nodes.
+    """
 
     def __init__(
         self,
+        old: Tree,
         known: dict[Identity, Node],
         limits: Limits,
         warn: Callable[[str], None],
         tick: Callable[[int], None],
     ) -> None:
+        self.old = old
         self.known = known
         self.limits = limits
         self.warn = warn
         self.tick = tick
         self.fits = pattern_of(limits.excludes)
         self.left_out = file_systems_left_out()
-        self.found: dict[Identity, Found] = {}
+        self.found: dict[Identity, Seen] = {}
         self.way = Way()
         self.torn = False
         self.seen = 0
@@ -232,7 +244,7 @@ class Walk:
             for name in names:
                 self._down(name)
             last = self.way.steps[-1]
-            self.device = last.found.identity[0]
+            self.device = device_of(last.found.identity)
             self._read(path.rstrip(b"/"))
         except Torn:
             self.torn = True
@@ -248,9 +260,11 @@ class Walk:
         except OSError as error:
             raise BadRoot(f"{os.fsdecode(name)}: {error.strerror}, or a symbolic link") from error
         found = above.found.entries.get(name)
-        status = os.fstat(descriptor)
-        if found is None or found.identity != (status.st_dev, status.st_ino):
-            found = self.found.get((status.st_dev, status.st_ino)) or self._directory(descriptor)
+        identity = identity_of(os.fstat(descriptor))
+        if not isinstance(found, Found) or found.identity != identity:
+            found = self.found.get(identity)
+            if not isinstance(found, Found):
+                found = self._directory(descriptor)
             above.found.entries[name] = found
         self.way.enter(name, found, descriptor)
 
@@ -259,7 +273,7 @@ class Walk:
         status = os.fstat(descriptor)
         wait_until_old(status.st_ctime_ns)
         status = os.fstat(descriptor)
-        identity = (status.st_dev, status.st_ino)
+        identity = identity_of(status)
         known = self.known.get(identity)
         plain = (status.st_mode & 0o7777, status.st_uid, status.st_gid)
         if known is not None and not known.is_directory:
@@ -273,7 +287,7 @@ class Walk:
             except (BadList, OSError) as error:
                 self.warn(f"an access list that can't be read: {error}")
                 rights, torn = Rights(0, status.st_uid, status.st_gid), True
-        found = Found(identity, True, known, rights, status.st_ctime_ns, 0, True, torn)
+        found = Found(identity, True, known, rights, status.st_ctime_ns, 0, torn)
         self.found[identity] = found
         return found
 
@@ -316,10 +330,14 @@ class Walk:
         """The files of a directory, as its entries, and the names of its directories."""
         directories = []
         entries = here.found.entries
+        known = here.found.known
+        names = self.old.entries.get(known.number, {}) if known is not None else {}
+        kept = {name: name for name in names}  # a name that was known isn't kept twice
         patterned = bool(self.limits.excludes)
         with os.scandir(here.descriptor) as listing:
             for entry in listing:
                 name = os.fsencode(entry.name)
+                name = kept.get(name, name)
                 if patterned and self.fits(name, path + b"/" + name):
                     entries.pop(name, None)
                 elif len(name) > NAME_MAX:
@@ -335,29 +353,34 @@ class Walk:
                         entries[name] = self._file(status)
         return directories
 
-    def _file(self, status: os.stat_result) -> Found:
+    def _file(self, status: os.stat_result) -> Seen:
         """What is seen of a file. Where it was seen with another status, it is torn."""
-        identity = (status.st_dev, status.st_ino)
-        changed = status.st_ctime_ns
-        found = self.found.get(identity)
-        if found is not None and not found.is_directory:
-            if found.changed != changed:
-                found.torn = found.fresh = True
-                self.torn = True
-            return found
+        identity = identity_of(status)
+        seen = self.found.get(identity)
+        if seen is None or isinstance(seen, Found) and seen.is_directory:
+            seen = self._first_seen(identity, status)
+            self.found[seen.identity] = seen  # one object is both key and field
+        elif isinstance(seen, Found):
+            if seen.changed != status.st_ctime_ns:
+                seen.torn = self.torn = True
+        elif not _is_as_known(seen, status):
+            seen = self._fresh(identity, status, seen)
+            seen.torn = self.torn = True
+            self.found[identity] = seen
+        return seen
+
+    def _first_seen(self, identity: Identity, status: os.stat_result) -> Seen:
+        """The file's node, where its status is the known one."""
         known = self.known.get(identity)
-        fresh = True
-        if known is not None:
-            if known.is_directory:
-                known = None
-            elif known.changed == changed and known.size == status.st_size:
-                plain = (status.st_mode & 0o7777, status.st_uid, status.st_gid)
-                fresh = known.rights[:3] != plain
-                identity = known.identity
-        size = status.st_size
-        found = Found(identity, False, known, None, changed, size, fresh, entries=_NO_ENTRIES)
-        self.found[identity] = found
-        return found
+        if known is None or known.is_directory:
+            return self._fresh(identity, status, None)
+        return known if _is_as_known(known, status) else self._fresh(identity, status, known)
+
+    @staticmethod
+    def _fresh(identity: Identity, status: os.stat_result, known: Node | None) -> Found:
+        """A file that has to be looked at."""
+        changed, size = status.st_ctime_ns, status.st_size
+        return Found(identity, False, known, None, changed, size, entries=_NO_ENTRIES)
 
     def _visit(self, here: Step, name: bytes, path: bytes) -> None:
         """Walks a directory below the one that is read."""
@@ -369,14 +392,13 @@ class Walk:
         except OSError as error:
             self.warn(f"{os.fsdecode(path)}: {error.strerror}")
             return
-        status = os.fstat(descriptor)
-        identity = (status.st_dev, status.st_ino)
+        identity = identity_of(os.fstat(descriptor))
         if identity in self.limits.omitted or self._is_elsewhere(identity, path):
             os.close(descriptor)
             here.found.entries.pop(name, None)
             return
         found = here.found.entries.get(name)
-        if found is None or found.identity != identity:
+        if not isinstance(found, Found) or found.identity != identity:
             if identity in self.found:
                 self.warn(f"{os.fsdecode(path)}: in two places, it is taken once")
                 os.close(descriptor)
@@ -395,11 +417,12 @@ class Walk:
 
     def _is_elsewhere(self, identity: Identity, path: bytes) -> bool:
         """Whether a directory is on a file system that is left out."""
-        if identity[0] == self.device:
+        device = device_of(identity)
+        if device == self.device:
             return False
         if self.limits.one_file_system:
             return True
-        if identity[0] in self.left_out:
+        if device in self.left_out:
             self.warn(f"{os.fsdecode(path)}: a file system that is left out")
             return True
         return False
