@@ -60,7 +60,18 @@ def needs_program(name: str, program: str) -> None:
 
 
 def folder_of_own() -> tempfile.TemporaryDirectory[str]:
-    """A new folder that everybody may pass through."""
-    folder = tempfile.TemporaryDirectory(prefix="wumpus-test-")
+    """A new folder that everybody may pass through.
+
+    Where nothing else is said, it is in `/var/tmp`: names come and go in `/tmp` all the while, and
+    the mirror looks again at what is below a directory that changed.
+    """
+    where = None if "TMPDIR" in os.environ else "/var/tmp"
+    folder = tempfile.TemporaryDirectory(prefix="wumpus-test-", dir=where)
     os.chmod(folder.name, 0o755)
     return folder
+
+
+def quick_folder() -> tempfile.TemporaryDirectory[str]:
+    """A new folder in memory where there is such a place: the end of a save waits for no disk."""
+    where = "/dev/shm" if os.access("/dev/shm", os.W_OK) else None
+    return tempfile.TemporaryDirectory(prefix="wumpus-test-", dir=where)

@@ -1,32 +1,42 @@
 """The race of the mirror against somebody who swaps a file for a secret.
 
-A process of user 1000 swaps, writes, links and shuts, so that at each moment no other user may
-read the secret. Meanwhile the mirror makes turn after turn. After each, nobody else is told of the
-secret. A plain reader by paths, beside it, shows that the race can be lost.
+In each round a process of user 1000 swaps, writes, links and shuts a few times, so that at each
+moment no other user may read the secret, while the mirror makes a turn. After the turn nobody else
+is told of the secret. Three rounds of four end when the swaps do, so that the next one finds the
+public text; the fourth doesn't wait. A plain reader by paths, beside it, shows that the race can
+be lost.
+
+Rounds are cheap since the store is in memory, and since the mirror waits for less time than else
+before it trusts a status: that is harder for it, not easier.
 """
 
 import os
 import random
+import select
 import signal
 import sys
 import time
 from collections.abc import Callable
 from pathlib import Path
+from unittest import mock
 
-from harness import Score, folder_of_own, needs_program, needs_root, options
+from harness import Score, folder_of_own, needs_program, needs_root, options, quick_folder
 from kernel import User, become
 
+from wumpus import walk  # isort: skip
 from wumpus.mirror import Mirror, Wish  # isort: skip
 from wumpus.program import die_with_parent  # isort: skip
 from wumpus.progress import Progress  # isort: skip
 from wumpus.reach import Direct  # isort: skip
 from wumpus.walk import Limits  # isort: skip
 
+YOUNG = 0.02  # seconds in which two changes may have one ctime: two ticks of the slowest clock
+TOLD_EVERY = 15.0
 OWNER = User(1000, (1000,))
 ASKER = 1001
 SECRET = b"secret secret\n"
 PUBLIC = b"apple pie\n"
-LARGE = 4_000_000  # bytes before the end of a file that takes a while to read
+LARGE = 2_400_000  # bytes before the end of a file that is read in several pieces
 
 
 def write(path: str, text: bytes) -> None:
@@ -66,13 +76,15 @@ class Attack:
 
     def pause(self) -> None:
         """Waits a moment, sometimes so long that the mirror may trust what it reads."""
-        time.sleep(self.draw.choice((0.0, 0.0, 0.0001, 0.001, 0.01, 0.06)))
+        time.sleep(self.draw.choice((0.0, 0.0, 0.0001, 0.001, 0.01, 1.2 * YOUNG)))
 
-    def for_ever(self) -> None:
-        """Swaps on and on."""
-        while True:
-            self.draw.choice(self.ways)()
-            self.pause()
+    def rounds(self, go: int, done: int) -> None:
+        """A few swaps after each byte that comes, and then a byte back."""
+        while os.read(go, 1):
+            for _ in range(self.draw.randrange(1, 4)):
+                self.pause()
+                self.draw.choice(self.ways)()
+            os.write(done, b".")
 
     def by_mode(self) -> None:
         """The file is shut, has the secret for a moment, and is opened again."""
@@ -125,7 +137,6 @@ class Attack:
         write(f"{self.top}/closed/open/file", PUBLIC)
         os.rename(f"{self.top}/closed/open", f"{self.top}/open")
 
-
     def by_other_name(self) -> None:
         """A file of several names has the secret while only closed directories have it."""
         os.unlink(f"{self.top}/open/pair")
@@ -148,20 +159,78 @@ class Attack:
         os.chmod(large, 0o644)
 
 
-def attack(top: str, seed: int) -> int:
-    """Starts the process that swaps: its number."""
+def child_of(what: Callable[[], None]) -> int:
+    """Runs a function in a child that ends with this process: its number."""
     child = os.fork()
     if child == 0:
         try:
+            die_with_parent()
+            what()
+        finally:
+            os._exit(0)
+    return child
+
+
+class Attacker:
+    """The process that swaps, in step with the rounds."""
+
+    def __init__(self, top: str, seed: int) -> None:
+        go, self.going = os.pipe()
+        self.done, done = os.pipe()
+        self.due = 0
+
+        def attack() -> None:
             become(OWNER)
             die_with_parent()
             os.umask(0o022)
+            os.close(self.going)
             one = Attack(top, random.Random(seed))
             one.prepare()
-            one.for_ever()
-        finally:
-            os._exit(1)
-    return child
+            os.write(done, b".")
+            one.rounds(go, done)
+
+        self.child = child_of(attack)
+        self.due = 1
+        self.wait()
+
+    def begin(self) -> None:
+        """Has it swap."""
+        os.write(self.going, b".")
+        self.due += 1
+
+    def wait(self) -> None:
+        """Waits until all that was begun is done."""
+        while self.due:
+            self.due -= len(os.read(self.done, self.due))
+
+    def end(self) -> None:
+        """Ends it."""
+        os.kill(self.child, signal.SIGKILL)
+        os.waitpid(self.child, 0)
+
+
+class PlainReader:
+    """A process that reads by paths, again and again, and counts how often it got the secret."""
+
+    def __init__(self, top: str) -> None:
+        reading, self.ending = os.pipe()
+        self.count, counting = os.pipe()
+
+        def read() -> None:
+            os.close(self.ending)
+            lost = 0
+            while not select.select([reading], [], [], 0.0002)[0]:
+                lost += plain_reader_loses(top)
+            os.write(counting, b"%d" % lost)
+
+        self.child = child_of(read)
+
+    def end(self) -> int:
+        """Ends it: how often it got the secret."""
+        os.close(self.ending)
+        lost = int(os.read(self.count, 20))
+        os.waitpid(self.child, 0)
+        return lost
 
 
 def plain_reader_loses(top: str) -> bool:
@@ -176,38 +245,74 @@ def plain_reader_loses(top: str) -> bool:
         return False
 
 
+class Race:
+    """A tree, its attacker, and a mirror over it."""
+
+    def __init__(self, tree: str, store: Path, program: str, score: Score, seed: int) -> None:
+        self.score = score
+        self.reach = Direct(program, store)
+        self.mirror = Mirror(self.reach, store, Progress("test", True))
+        self.mirror.begin(False)
+        self.wish = Wish((os.fsencode(tree),), Limits(), {})
+        self.attacker = Attacker(tree, seed)
+        self.shown = 0  # rounds after which the public text was there
+        self.met = 0  # rounds in which something didn't stand still
+
+    def round(self, number: int) -> None:
+        """Swaps and a turn, at the same time."""
+        self.attacker.begin()
+        told = self.mirror.turn(self.wish)
+        self.met += told.shut > 0
+        reply = self.reach.ask(b'count\t%d\t"secret"\n' % ASKER)
+        self.score.check(reply == b"count\t0\t0", f"round {number}: {reply!r}")
+        self.shown += self.reach.ask(b'count\t%d\t"apple"\n' % ASKER) != b"count\t0\t0"
+        if number % 4:
+            self.attacker.wait()
+        if number % 20 == 0:
+            self.reach.done()
+
+    def rounds(self, count: int, seconds: float) -> int:
+        """So many rounds, or as many as there is time for: how many there were."""
+        began = told = time.monotonic()
+        for number in range(count):
+            now = time.monotonic()
+            if now - began > seconds:
+                return number
+            if now - told > TOLD_EVERY:
+                told = now
+                print(f"race: {number} of {count} rounds after {now - began:.0f} s", flush=True)
+            self.round(number)
+        return count
+
+
 def main() -> int:
     """Runs the test."""
     parser = options(__doc__ or "")
     parser.add_argument("--rounds", type=int, default=1500)
+    parser.add_argument("--seconds", type=float, default=600.0, help="at most so long")
     given = parser.parse_args()
     needs_root("race")
     needs_program("race", given.program)
     score = Score("race")
-    with folder_of_own() as name:
+    young = mock.patch.object(walk, "YOUNG", int(YOUNG * 1e9))
+    with young, folder_of_own() as name, quick_folder() as store:
         os.mkdir(f"{name}/tree", 0o755)
         os.chown(f"{name}/tree", OWNER.number, OWNER.groups[0])
-        store = Path(name) / "store"
-        store.mkdir(mode=0o700)
-        reach = Direct(given.program, store)
-        mirror = Mirror(reach, store, Progress("test", True))
-        mirror.begin(False)
-        wish = Wish((os.fsencode(f"{name}/tree"),), Limits(), {})
-        child = attack(f"{name}/tree", given.seed)
-        lost = shown = 0
+        race = Race(f"{name}/tree", Path(store), given.program, score, given.seed)
+        reader = PlainReader(f"{name}/tree")
+        began = time.monotonic()
         try:
-            for number in range(given.rounds):
-                lost += any(plain_reader_loses(f"{name}/tree") for _ in range(20))
-                mirror.turn(wish)
-                reply = reach.ask(b'count\t%d\t"secret"\n' % ASKER)
-                score.check(reply == b"count\t0\t0", f"round {number}: {reply!r}")
-                shown += reach.ask(b'count\t%d\t"apple"\n' % ASKER) != b"count\t0\t0"
+            done = race.rounds(given.rounds, given.seconds)
         finally:
-            os.kill(child, signal.SIGKILL)
-            os.waitpid(child, 0)
-        reach.abandon()
-    print(f"race: {given.rounds} turns; the public text was there after {shown} of them")
-    print(f"race: a reader by paths showed the secret in {lost} rounds")
+            race.attacker.end()
+            lost = reader.end()
+        race.reach.abandon()
+    print(f"race: {done} rounds in {time.monotonic() - began:.0f} s; something didn't stand still")
+    print(f"race: in {race.met} of them; the public text was there after {race.shown}")
+    print(f"race: a plain reader by paths showed the secret {lost} times")
+    score.check(done == given.rounds, f"{done} of {given.rounds} rounds: --seconds gives more")
+    score.check(race.shown * 4 > done, "the public text was mostly shut: that shows nothing")
+    score.check(lost > 0, "a plain reader lost no race: these rounds show nothing")
     return score.end()
 
 
