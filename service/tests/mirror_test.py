@@ -2,6 +2,7 @@
 
 import os
 import shutil
+import struct
 import subprocess
 import sys
 from pathlib import Path
@@ -103,9 +104,15 @@ def losses(place: Place, score: Score) -> None:
     status, _, told = place.mirror("--anew")
     score.check(status == 0 and place.paths() == due, f"fed anew: {told}")
     state = (place.store / "mirror.state").read_text()
+    state_at = (place.store / "mirror.state").stat().st_mtime
     serial = state.split('"serial":"')[1].split('"')[0]
     line = f"rename\t2\tserial-{serial}\t2\tbusy-x\nchmod\t1\t777\n"
     score.check(place.ask(line.encode()) == [b"ok", b"ok"], "a batch that stopped in its midst")
+    status, lines, told = place.mirror("--dry-run")
+    score.check(status == 0 and b"\ncreate\t" in lines, f"a dry run would feed all: {told}")
+    status, _, told = place.mirror("--dry-run", "--anew")
+    moved = (place.store / "wumpus-store.old" / "root").stat().st_mtime > state_at
+    score.check(status == 0 and not moved, f"and moves nothing aside: {told}")
     status, _, told = place.mirror()
     score.check(status == 0 and "anew" in told, f"it is found: {told}")
     score.check(place.paths() == due, "and all is there again")
@@ -133,25 +140,52 @@ def losses(place: Place, score: Score) -> None:
 
 def other_systems(place: Place, score: Score) -> None:
     """Another file system below the root, and a directory in two places."""
-    mounted, twice = place.tree / "mounted", place.tree / "twice"
-    mounted.mkdir()
-    twice.mkdir()
+    mounted, twice, odd = (place.tree / name for name in ("mounted", "twice", "od d"))
+    for one in (mounted, twice, odd):
+        one.mkdir()
     if subprocess.run(["mount", "-t", "tmpfs", "none", str(mounted)]).returncode != 0:
         print("mirror: no mounts here, one part is skipped")
         return
     try:
         subprocess.run(["mount", "--bind", str(place.tree / "keep"), str(twice)], check=True)
+        subprocess.run(["mount", "-t", "proc", "none", str(odd)], check=True)
         (mounted / "m").write_text("m\n")
         place.mirror("--one-file-system")
         score.check("mounted/m" not in place.paths(), "one file system only")
-        place.mirror()
+        told = place.mirror()[2]
         paths = place.paths()
         score.check("mounted/m" in paths, "all file systems")
-        one = [path for path in paths if path.endswith("/x")]
-        score.check(len(one) == 1, f"a directory in two places: {one}")
+        score.check(f"{odd}: a file system that is left out" in told, f"the kernel's own: {told}")
+        score.check(not any(one.startswith("od d") for one in paths), "its files")
+        found = [path for path in paths if path.endswith("/x")]
+        score.check(len(found) == 1, f"a directory in two places: {found}")
+        long_list(place, score, mounted)
     finally:
-        subprocess.run(["umount", str(mounted)])
-        subprocess.run(["umount", str(twice)])
+        for one in (mounted, twice, odd):
+            subprocess.run(["umount", str(one)], stderr=subprocess.DEVNULL)
+
+
+def long_list(place: Place, score: Score, folder: Path) -> None:
+    """A file, and a directory, whose list no line of the program's has room for: they are shut."""
+    none = 0xFFFFFFFF
+    named = [(2, 4, 4_000_000_000 + number) for number in range(8000)]
+    entries = [(1, 6, none), *named, (4, 4, none), (16, 7, none), (32, 0, none)]
+    value = struct.pack("<I", 2) + b"".join(struct.pack("<HHI", *entry) for entry in entries)
+    below = folder / "below"
+    below.mkdir()
+    for path in (folder / "long", below / "file"):
+        path.write_text("quince\n")
+    for path in (folder / "long", below):
+        os.setxattr(path, "system.posix_acl_access", value)
+    (folder / "plain").write_text("quince\n")
+    status, _, told = place.mirror()
+    score.check(status == 0 and "longer than a line" in told, f"long lists: {told}")
+    paths = place.paths()
+    due = {"mounted/long", "mounted/below/file", "mounted/plain"}
+    score.check(due <= set(paths), f"long lists: {paths}")
+    for user, count in ((0, b"1\t1"), (4_000_000_001, b"1\t1")):
+        reply = place.ask(b'count\t%d\t"quince"\n' % user)
+        score.check(reply == [b"count\t" + count], f"user {user}, long lists: {reply}")
 
 
 def main() -> int:

@@ -23,7 +23,7 @@ from unittest import mock
 from harness import Score, folder_of_own, needs_program, needs_root, options, quick_folder
 from kernel import User, become
 
-from wumpus import walk  # isort: skip
+from wumpus import way  # isort: skip
 from wumpus.mirror import Mirror, Wish  # isort: skip
 from wumpus.program import die_with_parent  # isort: skip
 from wumpus.progress import Progress  # isort: skip
@@ -294,7 +294,7 @@ def main() -> int:
     needs_root("race")
     needs_program("race", given.program)
     score = Score("race")
-    young = mock.patch.object(walk, "YOUNG", int(YOUNG * 1e9))
+    young = mock.patch.object(way, "YOUNG", int(YOUNG * 1e9))
     with young, folder_of_own() as name, quick_folder() as store:
         os.mkdir(f"{name}/tree", 0o755)
         os.chown(f"{name}/tree", OWNER.number, OWNER.groups[0])

@@ -14,7 +14,8 @@ from dataclasses import dataclass
 from .access import BadList, rights_at
 from .nodes import Node, Rights, identity_of
 from .script import TEXT_MAX
-from .walk import ATTEMPTS, DIRECTORY_FLAGS, Found, Torn, Way, wait_until_old
+from .walk import ATTEMPTS
+from .way import DIRECTORY_FLAGS, Found, Torn, Way, wait_until_old
 
 FILE_FLAGS = os.O_RDONLY | os.O_NOFOLLOW | os.O_NONBLOCK | os.O_NOCTTY | os.O_CLOEXEC
 LOOKED_FOR_NUL = 8192

@@ -15,7 +15,8 @@ from .progress import Progress
 from .reach import Failed, Reach
 from .script import spell
 from .state import Addition, BadState, Files, State, apply, new_serial, read_state
-from .walk import ATTEMPTS, Found, Limits, Seen, Walk
+from .walk import ATTEMPTS, Limits, Walk
+from .way import Found, Seen
 
 TEXTS_AT_MOST = 64 << 20  # bytes of texts in a batch
 
@@ -189,11 +190,15 @@ class Mirror:
         self.progress = progress
         self.state = State()
 
-    def begin(self, anew: bool) -> None:
-        """Finds out where the program stands. Raises `Failed`, and `BadState`."""
+    def begin(self, anew: bool, dry: bool = False) -> None:
+        """Finds out where the program stands. Raises `Failed`, and `BadState`.
+
+        Where that isn't known all is fed anew; before a dry run nothing is moved aside for it.
+        """
         found = None if anew else self._stand()
         if found is None:
-            self._anew(anew)
+            if not dry:
+                self._anew(anew)
             found = State()
         self.state = found
         node = MARK if found.serial else ROOT

@@ -81,7 +81,7 @@ def turns(given: argparse.Namespace, folder: Path, progress: Progress) -> None:
     whole = False
     try:
         mirror = Mirror(reach, folder, progress)
-        mirror.begin(given.anew)
+        mirror.begin(given.anew, given.dry_run)
         given.anew = False
         while True:
             began = time.monotonic()

@@ -9,7 +9,8 @@ from collections.abc import Iterator
 
 from .nodes import FIRST, ROOT, Node, Tree
 from .script import NUMBER_MAX
-from .walk import Found, Walk
+from .walk import Walk
+from .way import Found
 
 
 class Numbers:

@@ -5,77 +5,27 @@ of each directory on the file's path: each directory is read in a *window*, betw
 all directories from `/` down to it, by name from above. A window counts where both looks see the
 same directories with the same ctimes. A directory that is seen with two different owners, modes or
 places in one walk is *torn*: it is shut, and the caller walks again.
-
-That a ctime tells of each change holds once the clock has gone on since: what changed in the last
-50 ms is waited for.
 """
 
 import fnmatch
 import os
 import re
 import stat
-import time
 from collections.abc import Callable
-from dataclasses import dataclass, field
+from dataclasses import dataclass
 
 from .access import BadList, rights_at
+from .mounts import file_systems_left_out
 from .nodes import Identity, Node, Rights, Tree, device_of, identity_of
 from .script import DEPTH_MAX, NAME_MAX
+from .way import DIRECTORY_FLAGS, NO_ENTRIES, Found, Seen, Step, Torn, Way, wait_until_old
 
 ATTEMPTS = 5
-YOUNG = 50_000_000  # nanoseconds in which two changes may have one ctime
-DIRECTORY_FLAGS = os.O_RDONLY | os.O_DIRECTORY | os.O_NOFOLLOW | os.O_CLOEXEC
 DEEPEST = DEPTH_MAX - 1  # a directory that moves passes through one at depth 2
-
-# File systems that hold no files of anybody, and those whose server decides who may read.
-LEFT_OUT = frozenset(
-    "autofs binfmt_misc bpf cgroup cgroup2 configfs debugfs devpts devtmpfs efivarfs fusectl "
-    "hugetlbfs mqueue nsfs proc pstore rpc_pipefs securityfs selinuxfs sysfs tracefs "
-    "9p afs ceph cifs coda fuse fuse.gvfsd-fuse fuse.sshfs fuse.portal nfs nfs4 smb3".split()
-)
-
-
-class Torn(Exception):
-    """A directory isn't where, or what, the walk saw first."""
 
 
 class BadRoot(Exception):
     """A root that can't be walked; the text says why."""
-
-
-@dataclass(slots=True)
-class Found:
-    """A directory that the walk saw, or a file that has to be looked at.
-
-    `known` is the node that it is known as. A file whose status is the known one has no `Found`:
-    its node itself stands for it. `rights` are a directory's own. `number` and `links`, the count
-    of its names, are set when the walk is done.
-    """
-
-    identity: Identity
-    is_directory: bool
-    known: Node | None
-    rights: Rights | None
-    changed: int
-    size: int
-    torn: bool = False
-    links: int = 0
-    number: int = 0
-    entries: "dict[bytes, Seen]" = field(default_factory=dict)
-
-
-Seen = Found | Node
-_NO_ENTRIES: dict[bytes, Seen] = {}  # of all files
-
-
-@dataclass(slots=True)
-class Step:
-    """A directory on the way from `/` to the one that is read, open at `descriptor`."""
-
-    descriptor: int
-    name: bytes
-    found: Found
-    changed: int
 
 
 @dataclass(frozen=True)
@@ -85,13 +35,6 @@ class Limits:
     excludes: tuple[bytes, ...] = ()
     one_file_system: bool = False
     omitted: frozenset[Identity] = frozenset()
-
-
-def wait_until_old(changed: int) -> None:
-    """Waits until a change that comes now has another ctime than this one."""
-    age = time.time_ns() - changed
-    if 0 <= age < YOUNG:
-        time.sleep((YOUNG - age) / 1e9)
 
 
 def pattern_of(patterns: tuple[bytes, ...]) -> Callable[[bytes, bytes], bool]:
@@ -110,82 +53,6 @@ def pattern_of(patterns: tuple[bytes, ...]) -> Callable[[bytes, bytes], bool]:
         return of_paths is not None and of_paths.match(path) is not None
 
     return fits
-
-
-class Way:
-    """The directories from `/` to the one that is read, each held open."""
-
-    def __init__(self) -> None:
-        self.steps: list[Step] = []
-
-    def look(self) -> list[int]:
-        """The ctimes of all directories on the way, by name from above.
-
-        Raises `Torn` where one isn't the directory that was seen first, or has other rights.
-        """
-        seen = []
-        for place, step in enumerate(self.steps):
-            status = self._status(place, step)
-            if status.st_ctime_ns != step.changed:
-                self._compare(step, status)
-            wait_until_old(status.st_ctime_ns)
-            seen.append(status.st_ctime_ns)
-        return seen
-
-    def _status(self, place: int, step: Step) -> os.stat_result:
-        """The status of what has the step's name now."""
-        if place == 0:
-            return os.fstat(step.descriptor)
-        above = self.steps[place - 1].descriptor
-        try:
-            status = os.stat(step.name, dir_fd=above, follow_symlinks=False)
-        except OSError as error:
-            self._tear(step.found)
-            raise Torn from error
-        if identity_of(status) != step.found.identity:
-            self._tear(step.found)
-            raise Torn
-        return status
-
-    def _compare(self, step: Step, status: os.stat_result) -> None:
-        """Accepts a directory whose ctime is another one where its rights are the same."""
-        try:
-            rights = rights_at(step.descriptor, status)
-        except (BadList, OSError):
-            rights = None
-        if rights is None or rights != step.found.rights:
-            self._tear(step.found)
-            raise Torn
-        step.changed = status.st_ctime_ns
-
-    @staticmethod
-    def _tear(found: Found) -> None:
-        found.torn = True
-
-    def enter(self, name: bytes, found: Found, descriptor: int) -> None:
-        """Goes down to a directory that is open there."""
-        self.steps.append(Step(descriptor, name, found, found.changed))
-
-    def leave(self) -> None:
-        """Goes up again."""
-        os.close(self.steps.pop().descriptor)
-
-
-def file_systems_left_out() -> frozenset[int]:
-    """The devices of the mounts whose files aren't ordinary ones, or aren't this machine's."""
-    devices = set()
-    try:
-        with open("/proc/self/mountinfo", encoding="utf-8", errors="surrogateescape") as mounts:
-            lines = mounts.readlines()
-    except OSError:
-        return frozenset()
-    for line in lines:
-        fields = line.split(" ")
-        kind = fields[fields.index("-") + 1]
-        if kind in LEFT_OUT or kind.startswith("fuse."):
-            major, minor = fields[2].split(":")
-            devices.add(os.makedev(int(major), int(minor)))
-    return frozenset(devices)
 
 
 def _is_as_known(known: Node, status: os.stat_result) -> bool:
@@ -380,12 +247,16 @@ class Walk:
     def _fresh(identity: Identity, status: os.stat_result, known: Node | None) -> Found:
         """A file that has to be looked at."""
         changed, size = status.st_ctime_ns, status.st_size
-        return Found(identity, False, known, None, changed, size, entries=_NO_ENTRIES)
+        return Found(identity, False, known, None, changed, size, entries=NO_ENTRIES)
 
     def _visit(self, here: Step, name: bytes, path: bytes) -> None:
         """Walks a directory below the one that is read."""
         if len(self.way.steps) >= DEEPEST:
             self.warn(f"{os.fsdecode(path[:200])}..: too deep, it is left out")
+            return
+        if path in self.left_out.places:
+            here.found.entries.pop(name, None)
+            self.warn(f"{os.fsdecode(path)}: a file system that is left out")
             return
         try:
             descriptor = os.open(name, DIRECTORY_FLAGS, dir_fd=here.descriptor)
@@ -422,7 +293,7 @@ class Walk:
             return False
         if self.limits.one_file_system:
             return True
-        if device in self.left_out:
+        if device in self.left_out.devices:
             self.warn(f"{os.fsdecode(path)}: a file system that is left out")
             return True
         return False
