@@ -11,10 +11,11 @@ from pathlib import Path
 from types import FrameType
 
 from . import VERSION
+from .clients import Bounds
 from .mirror_command import FOLDER, SOCKETS
 from .program import Program, die_with_parent
 from .reach import CONTROL, Failed, only_program
-from .service import Bounds, Service
+from .service import Service
 
 ASK = "ask"
 
