@@ -4,11 +4,13 @@ import argparse
 import os
 import sys
 import tempfile
+import time
 from pathlib import Path
 
 SERVICE = Path(__file__).resolve().parent.parent
 sys.path.insert(0, str(SERVICE))
 
+TOLD_EVERY = 15.0  # seconds
 BUILT = SERVICE.parent / "crates" / "wumpus" / "out" / "wumpus"
 
 
@@ -34,6 +36,27 @@ class Score:
         """Prints the count: the exit status."""
         print(f"{self.name}: {self.passed} passed, {self.failed} failed", flush=True)
         return 1 if self.failed else 0
+
+
+class Pace:
+    """Tells how far a long test is, now and then."""
+
+    def __init__(self, name: str, count: int, what: str) -> None:
+        self.name = name
+        self.count = count
+        self.what = what
+        self.began = self.told = time.monotonic()
+
+    def spent(self) -> float:
+        """Seconds since the beginning."""
+        return time.monotonic() - self.began
+
+    def tell(self, done: int) -> None:
+        """Tells it, where nothing was told for a while."""
+        if time.monotonic() - self.told > TOLD_EVERY:
+            self.told = time.monotonic()
+            of = f"{done} of {self.count} {self.what}"
+            print(f"{self.name}: {of} after {self.spent():.0f} s", flush=True)
 
 
 def options(about: str) -> argparse.ArgumentParser:

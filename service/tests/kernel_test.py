@@ -13,7 +13,7 @@ import sys
 import time
 from pathlib import Path
 
-from harness import SERVICE, Score, folder_of_own, needs_program, needs_root, options
+from harness import SERVICE, Pace, Score, folder_of_own, needs_program, needs_root, options
 from kernel import Due, User, opened_by, paths_below
 from tree import Changes
 
@@ -143,7 +143,9 @@ def main() -> int:
     with folder_of_own() as name:
         trial = Trial(Path(name), given.program, draw, score)
         trial.changes.some(120)
+        pace = Pace("kernel", given.batches, "batches")
         for batch in range(given.batches):
+            pace.tell(batch)
             trial.changes.some(draw.randrange(2 * given.calls))
             if draw.random() < 0.15:
                 trial.regroup()

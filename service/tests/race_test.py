@@ -20,7 +20,7 @@ from collections.abc import Callable
 from pathlib import Path
 from unittest import mock
 
-from harness import Score, folder_of_own, needs_program, needs_root, options, quick_folder
+from harness import Pace, Score, folder_of_own, needs_program, needs_root, options, quick_folder
 from kernel import User, become
 
 from wumpus import way  # isort: skip
@@ -31,7 +31,6 @@ from wumpus.reach import Direct  # isort: skip
 from wumpus.walk import Limits  # isort: skip
 
 YOUNG = 0.02  # seconds in which two changes may have one ctime: two ticks of the slowest clock
-TOLD_EVERY = 15.0
 OWNER = User(1000, (1000,))
 ASKER = 1001
 SECRET = b"secret secret\n"
@@ -273,14 +272,11 @@ class Race:
 
     def rounds(self, count: int, seconds: float) -> int:
         """So many rounds, or as many as there is time for: how many there were."""
-        began = told = time.monotonic()
+        pace = Pace("race", count, "rounds")
         for number in range(count):
-            now = time.monotonic()
-            if now - began > seconds:
+            if pace.spent() > seconds:
                 return number
-            if now - told > TOLD_EVERY:
-                told = now
-                print(f"race: {number} of {count} rounds after {now - began:.0f} s", flush=True)
+            pace.tell(number)
             self.round(number)
         return count
 
