@@ -1,6 +1,8 @@
 """The mirror by itself: its options, what it leaves out, and what it does after a loss."""
 
 import os
+import pty
+import re
 import shutil
 import struct
 import subprocess
@@ -20,13 +22,16 @@ class Place:
         self.tree.mkdir()
         self.store.mkdir(mode=0o700)
 
-    def mirror(self, *words: str) -> tuple[int, bytes, str]:
-        """Runs the mirror: its status, and what it wrote."""
-        command = [
+    def words(self, *words: str) -> list[str]:
+        """The words that run the mirror."""
+        return [
             str(SERVICE / "wumpus-mirror"), "--folder", str(self.store), "--program",
             self.program, "--sockets", "/nonexistent", *words, str(self.tree),
         ]  # fmt: skip
-        told = subprocess.run(command, capture_output=True, timeout=300)
+
+    def mirror(self, *words: str) -> tuple[int, bytes, str]:
+        """Runs the mirror: its status, and what it wrote."""
+        told = subprocess.run(self.words(*words), capture_output=True, timeout=300)
         return told.returncode, told.stdout, told.stderr.decode("utf-8", "replace")
 
     def ask(self, script: bytes) -> list[bytes]:
@@ -63,6 +68,30 @@ def options_of(place: Place, score: Score) -> None:
     score.check("in 0 batches" in place.mirror()[2], "nothing is sent twice")
     (place.tree / "a").write_text("apple of a\n")
     score.check("in 0 batches" in place.mirror()[2], "a file that was written with the same text")
+
+
+def progress(place: Place, score: Score) -> None:
+    """Where standard error is a terminal, it tells how far it is: files, bytes, what is left."""
+    many = place.tree / "many"
+    many.mkdir()
+    for number in range(3000):
+        (many / f"{number}").write_text("quince\n")
+    ours, theirs = pty.openpty()
+    words = place.words("--anew")
+    child = subprocess.Popen(words, stdout=subprocess.DEVNULL, stderr=theirs)
+    os.close(theirs)
+    told = b""
+    while True:
+        try:
+            told += os.read(ours, 65536)
+        except OSError:
+            break
+    os.close(ours)
+    score.check(child.wait() == 0, f"a turn at a terminal: {told!r}")
+    score.check(re.search(rb"\d+ names seen", told) is not None, f"names: {told!r}")
+    far = re.search(rb"\r\d+ files looked at, \d+ left, \d+ MiB", told)
+    score.check(far is not None, f"how far it is: {told[-500:]!r}")
+    shutil.rmtree(many)
 
 
 def odd_files(place: Place, score: Score) -> None:
@@ -196,6 +225,7 @@ def main() -> int:
     with folder_of_own() as name:
         place = Place(Path(name), given.program)
         options_of(place, score)
+        progress(place, score)
         odd_files(place, score)
         losses(place, score)
         if os.geteuid() == 0:

@@ -39,15 +39,15 @@ class Served:
         self.store.mkdir(mode=0o700)
         self.process: subprocess.Popen[bytes] | None = None
 
-    def start(self) -> None:
-        """Starts the service, and waits until it listens."""
+    def start(self, *words: str) -> None:
+        """Starts the service, with other options after the usual ones, and waits until it listens."""
         for one in self.sockets.iterdir():
             one.unlink()
         self.process = subprocess.Popen(
             [
                 str(SERVICE / "wumpusd"), "--folder", str(self.store), "--sockets",
                 str(self.sockets), "--program", self.program, "--query-seconds", "5",
-                "--idle-seconds", "3",
+                "--idle-seconds", "3", *words,
             ],
             stderr=subprocess.DEVNULL,
         )  # fmt: skip
@@ -307,12 +307,12 @@ def saved_counts(served: Served, before: int, after: int) -> list[int]:
     return [int(line.split(b"\t")[1]) for line in told.stdout.splitlines()]
 
 
-def kill_program(served: Served) -> None:
-    """Kills the program that the service holds."""
+def kill_program(served: Served, number: int = signal.SIGKILL) -> None:
+    """Sends the program that the service holds a signal."""
     assert served.process is not None
     children = Path(f"/proc/{served.process.pid}/task/{served.process.pid}/children")
     for child in children.read_text().split():
-        os.kill(int(child), signal.SIGKILL)
+        os.kill(int(child), number)
 
 
 def main() -> int:

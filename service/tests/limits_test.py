@@ -1,0 +1,116 @@
+"""The limits of the service, each by itself: replies, connections, silence, age, and time."""
+
+import os
+import signal
+import socket
+import sys
+import time
+from pathlib import Path
+
+from harness import Score, folder_of_own, needs_program, needs_root, options
+from service_test import ANN, BOB, CAROL, Served, as_user, kill_program, mirror_until_done
+
+COUNT = b'count\t"apple"'
+FILES = 8
+
+
+def connected(served: Served) -> socket.socket:
+    """A connection of this process."""
+    connection = socket.socket(socket.AF_UNIX, socket.SOCK_STREAM)
+    connection.settimeout(20)
+    connection.connect(str(served.sockets / "ask"))
+    return connection
+
+
+def third_connection(served: Served) -> bytes:
+    """What the third connection of a user is told, and the first one then."""
+    first, second, third = (connected(served) for _ in range(3))
+    told = third.recv(100)
+    first.sendall(COUNT + b"\n")
+    told += first.recv(100)
+    for one in (first, second, third):
+        one.close()
+    return told
+
+
+def end_of(served: Served, asks: bool) -> bytes:
+    """After how many tenths of a second a connection is ended, which asks each fifth one or not."""
+    began = time.monotonic()
+    with connected(served) as connection:
+        connection.settimeout(0.2)
+        while time.monotonic() - began < 20:
+            try:
+                if asks:
+                    connection.sendall(COUNT + b"\n")
+                if not connection.recv(100):
+                    break
+                time.sleep(0.2)
+            except TimeoutError:
+                continue
+            except (BrokenPipeError, ConnectionResetError):
+                break
+    return b"%d" % ((time.monotonic() - began) * 10)
+
+
+def of_connections(served: Served, score: Score) -> None:
+    """How many of a user there may be, how long a silent one stays, and how old one may be."""
+    told = as_user(BOB, lambda: third_connection(served))
+    due = b"refused\tconnections\ncount\t%d\t%d\n" % (FILES, FILES)
+    score.check(told == due, f"a third connection: {told!r}")
+    silent = int(as_user(BOB, lambda: end_of(served, False)))
+    score.check(9 <= silent <= 150, f"a silent connection ended after {silent / 10} s")
+    old = int(as_user(BOB, lambda: end_of(served, True)))
+    score.check(29 <= old <= 190, f"an old connection ended after {old / 10} s")
+
+
+def of_replies(served: Served, score: Score) -> None:
+    """A reply that is longer than is allowed isn't sent, and the next one is."""
+    told = served.ask(CAROL, b"paths")
+    score.check(told == b"refused\ttoolargereply", f"a long reply: {told!r}")
+    told = served.ask(CAROL, COUNT)
+    score.check(told == b"count\t%d\t%d" % (FILES, FILES), f"a short one after it: {told!r}")
+
+
+def of_time(served: Served, score: Score) -> None:
+    """A query that takes too long is ended, its user waits, and others are answered."""
+    kill_program(served, signal.SIGSTOP)
+    began = time.monotonic()
+    told = served.ask(ANN, COUNT)
+    spent = time.monotonic() - began
+    score.check(told == b"refused\ttooslow" and spent < 10, f"a slow query: {told!r}, {spent} s")
+    told = served.ask(ANN, COUNT)
+    score.check(told == b"refused\ttooslow", f"the same user again: {told!r}")
+    told = served.ask(BOB, COUNT)
+    score.check(told == b"count\t%d\t%d" % (FILES, FILES), f"another user: {told!r}")
+
+
+def main() -> int:
+    """Runs the test."""
+    given = options(__doc__ or "").parse_args()
+    needs_root("limits")
+    needs_program("limits", given.program)
+    score = Score("limits")
+    with folder_of_own() as name:
+        served = Served(Path(name), given.program)
+        for number in range(FILES):
+            path = served.tree / f"file{number}"
+            path.write_text("apple\n")
+            os.chmod(path, 0o644)
+        served.start(
+            "--reply-bytes", "100", "--connections-of-user", "2", "--query-seconds", "1",
+            "--idle-seconds", "1", "--age-seconds", "3",
+        )  # fmt: skip
+        try:
+            score.check(mirror_until_done(served), "a turn")
+            of_connections(served, score)
+            of_replies(served, score)
+            of_time(served, score)
+            score.check(served.end(signal.SIGTERM) == 0, "a clean end at SIGTERM")
+        finally:
+            if served.process is not None and served.process.poll() is None:
+                served.end(signal.SIGKILL)
+    return score.end()
+
+
+if __name__ == "__main__":
+    sys.exit(main())
