@@ -69,10 +69,14 @@ def digest_of(text: bytes) -> bytes:
 
 
 class Looker:
-    """Looks at one place after the other. `warn` is told of what is left out."""
+    """Looks at one place after the other. `warn` is told of what is left out.
+
+    A look at the way after a file was read is the one before the next file of its directory.
+    """
 
     def __init__(self, warn: Callable[[str], None]) -> None:
         self.way = Way()
+        self.last: list[int] | None = None  # what the last look at this way saw
         self.warn = warn
 
     def close(self) -> None:
@@ -85,9 +89,11 @@ class Looker:
         try:
             self._go(place.way)
             for _ in range(ATTEMPTS):
-                before = self.way.look()
+                before = self.last or self.way.look()
+                self.last = None
                 looked = self._read(place)
-                if looked is not None and self.way.look() == before:
+                self.last = self.way.look()
+                if looked is not None and self.last == before:
                     return looked
         except (Torn, Unstable):
             return None
@@ -102,6 +108,8 @@ class Looker:
         common = 0
         while common < min(len(steps), len(way)) and steps[common].found is way[common][1]:
             common += 1
+        if common < max(len(steps), len(way)):
+            self.last = None
         while len(steps) > common:
             self.way.leave()
         for name, found in way[common:]:

@@ -15,7 +15,7 @@ Identity = int  # of a device and an inode: one small object, where very many ar
 
 def identity_of(status: os.stat_result) -> Identity:
     """Tells the node of this status from any other one that is there at the same time."""
-    return identity_at(status.st_dev, status.st_ino)
+    return status.st_dev << 64 | status.st_ino
 
 
 def identity_at(device: int, inode: int) -> Identity:

@@ -46,15 +46,15 @@ def spell(*fields: bytes | int) -> bytes:
 
     A number that no line can have raises `ValueError`, so that none is refused for its form.
     """
-    return b"\t".join([_spell_field(field) for field in fields]) + b"\n"
-
-
-def _spell_field(field: bytes | int) -> bytes:
-    if not isinstance(field, int):
-        return escape(field)
-    if not 0 <= field <= NUMBER_MAX:
-        raise ValueError(f"{field} is no number of a line")
-    return b"%d" % field
+    spelled = []
+    for field in fields:
+        if not isinstance(field, int):
+            spelled.append(escape(field))
+        elif 0 <= field <= NUMBER_MAX:
+            spelled.append(b"%d" % field)
+        else:
+            raise ValueError(f"{field} is no number of a line")
+    return b"\t".join(spelled) + b"\n"
 
 
 def spell_user(user: int, groups: tuple[int, ...]) -> bytes | None:
