@@ -4,17 +4,17 @@
     python3 package_test.py --root ROOT --package out/wumpus_1.0_amd64.deb
 
 The services are run as their units have them, with the same user and capabilities, but without
-systemd, which a clean root doesn't run.
+systemd, which a clean root doesn't run. The root gets a `/proc` meanwhile.
 """
 
 import argparse
 import shutil
 import subprocess
 import sys
-import time
 from pathlib import Path
 
 from harness import Score, needs_root
+from service_test import wait_for
 
 LEFT = (
     "usr/bin/wumpus", "usr/bin/wumpus-ask", "usr/sbin/wumpusd", "usr/share/wumpus",
@@ -75,10 +75,11 @@ def used(root: Root, score: Score) -> None:
         root.run("chmod", "600", f"/home/{user}/diary")
     root.run("install", "-d", "-o", "wumpus", "-m", "755", "/run/wumpus")
     service = root.service("wumpusd", "--program", "/usr/bin/wumpus")
-    time.sleep(1)
+    wait_for((root.folder / "run/wumpus/control").exists)
     mirror = root.service(
-        "wumpus-mirror", "--quiet", "--one-file-system", "/home", capability="dac_read_search"
-    )
+        "wumpus-mirror", "--served", "--quiet", "--one-file-system", "/home",
+        capability="dac_read_search",
+    )  # fmt: skip
     score.check(mirror.wait() == 0, "a turn of the mirror")
     for user in ("ann", "bob"):
         status, told = root.ask(user, "budget")
@@ -110,9 +111,14 @@ def main() -> int:
     needs_root("package")
     score = Score("package")
     root = Root(Path(given.root))
-    installed(root, Path(given.package), score)
-    used(root, score)
-    removed(root, score)
+    process_folder = str(root.folder / "proc")
+    subprocess.run(["mount", "-t", "proc", "proc", process_folder], check=True)
+    try:
+        installed(root, Path(given.package), score)
+        used(root, score)
+        removed(root, score)
+    finally:
+        subprocess.run(["umount", process_folder])
     return score.end()
 
 
