@@ -9,6 +9,7 @@ Root makes the indexes; user 12345, who may not pass there, asks.
 """
 
 import argparse
+import itertools
 import os
 import shlex
 import shutil
@@ -20,6 +21,7 @@ from pathlib import Path
 from service import USER, timed
 
 SECRET = "zqsecretzq"
+RECOLL_FILES = 20  # it takes a second and more for each
 CONFIGURATION = "topdirs = {}\ndbdir = {}/xapiandb\nskippedPaths =\nloglevel = 1\nidxflushmb = 100\n"
 
 
@@ -66,14 +68,19 @@ class Beside:
         self.row("`rg -uuu -w -i`", None, ["sh", "-c", f'exec {" ".join(ask)} "$0" {places}'])
 
     def recoll(self) -> None:
-        """`recoll`: one index for all, as an administrator would make it."""
+        """`recoll`: one index for all, as an administrator would make it, over a part of the tree."""
+        part = self.folder / "part"
+        part.mkdir()
+        files = (one for one in sorted(Path(self.tree).rglob("*")) if one.is_file())
+        for number, path in enumerate(itertools.islice(files, RECOLL_FILES)):
+            shutil.copyfile(path, part / f"{number}-{path.name}")
         configuration = self.folder / "recoll"
         configuration.mkdir()
-        text = CONFIGURATION.format(f"{self.tree} {self.closed}", configuration)
+        text = CONFIGURATION.format(f"{part} {self.closed}", configuration)
         (configuration / "recoll.conf").write_text(text)
         made = timed(["recollindex", "-c", str(configuration)])
         subprocess.run(["chmod", "-R", "a+rX", str(configuration)], check=True)
-        self.row("recoll", made, ["recollq", "-c", str(configuration), "-a"])
+        self.row(f"recoll, over {RECOLL_FILES} of the files", made, ["recollq", "-c", str(configuration), "-a"])
 
 
 def main() -> int:

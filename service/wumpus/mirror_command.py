@@ -78,7 +78,7 @@ def one_session(given: argparse.Namespace, folder: Path, progress: Progress) -> 
 def turns(given: argparse.Namespace, folder: Path, progress: Progress) -> None:
     """What `one_session` does, alone in its folder."""
     reach = reach_of(given, folder)
-    whole = False
+    whole = is_told = False
     try:
         mirror = Mirror(reach, folder, progress)
         mirror.begin(given.anew, given.dry_run)
@@ -91,7 +91,8 @@ def turns(given: argparse.Namespace, folder: Path, progress: Progress) -> None:
                 return
             told = one_turn(mirror, wish)
             reach.done()
-            report(told, began, given.quiet or (given.every is not None and told.batches == 0))
+            report(told, began, given.quiet or (is_told and told.batches == 0))
+            is_told = True  # of later turns only those that fed something are told
             if given.every is None:
                 break
             time.sleep(max(0.0, given.every - (time.monotonic() - began)))
