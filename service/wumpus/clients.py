@@ -132,9 +132,15 @@ class Clients:
         client.received += data
 
     def _go_on(self, client: Client) -> None:
-        """Sends what waits, and then takes the next query that came whole; one at a time."""
+        """Sends what waits, and then takes the next query that came whole; one at a time.
+
+        One that is too old has no next query, also where it always has one ready.
+        """
         self._flush(client)
         while not (client.asking or client.sending or client.ending or client.ended):
+            if time.monotonic() - client.since > self.bounds.age_seconds:
+                self.close(client)
+                return
             line, found, rest = client.received.partition(b"\n")
             if len(line) > queries.QUERY_MAX:
                 client.ending = True
