@@ -22,7 +22,9 @@ from service import USER, timed
 
 SECRET = "zqsecretzq"
 RECOLL_FILES = 20  # it takes a second and more for each
-CONFIGURATION = "topdirs = {}\ndbdir = {}/xapiandb\nskippedPaths =\nloglevel = 1\nidxflushmb = 100\n"
+CONFIGURATION = (
+    "topdirs = {}\ndbdir = {}/xapiandb\nskippedPaths =\nloglevel = 1\nidxflushmb = 100\n"
+)
 
 
 class Beside:
@@ -68,7 +70,7 @@ class Beside:
         self.row("`rg -uuu -w -i`", None, ["sh", "-c", f'exec {" ".join(ask)} "$0" {places}'])
 
     def recoll(self) -> None:
-        """`recoll`: one index for all, as an administrator would make it, over a part of the tree."""
+        """`recoll`: one index for all, over a part of the tree."""
         part = self.folder / "part"
         part.mkdir()
         files = (one for one in sorted(Path(self.tree).rglob("*")) if one.is_file())
@@ -80,7 +82,11 @@ class Beside:
         (configuration / "recoll.conf").write_text(text)
         made = timed(["recollindex", "-c", str(configuration)])
         subprocess.run(["chmod", "-R", "a+rX", str(configuration)], check=True)
-        self.row(f"recoll, over {RECOLL_FILES} of the files", made, ["recollq", "-c", str(configuration), "-a"])
+        self.row(
+            f"recoll, over {RECOLL_FILES} of the files",
+            made,
+            ["recollq", "-c", str(configuration), "-a"],
+        )
 
 
 def main() -> int:

@@ -44,7 +44,7 @@ service-test:
 	done; exit $$failed
 
 service-check:
-	cd service && mypy --strict wumpus tests ../bench/service.py ../bench/many.py
+	cd service && mypy --strict wumpus tests ../bench/service.py ../bench/many.py ../bench/beside.py
 	mandoc -Tlint -W warning docs/wumpus.1 service/man/*
 	bash -n service/completions/wumpus.bash
 	zsh -n service/completions/_wumpus

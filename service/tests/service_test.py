@@ -40,7 +40,7 @@ class Served:
         self.process: subprocess.Popen[bytes] | None = None
 
     def start(self, *words: str) -> None:
-        """Starts the service, with other options after the usual ones, and waits until it listens."""
+        """Starts the service, with other options after the usual ones; waits until it listens."""
         for one in self.sockets.iterdir():
             one.unlink()
         self.process = subprocess.Popen(

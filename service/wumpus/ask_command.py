@@ -120,7 +120,8 @@ class Asking:
         if len(line) > QUERY_MAX:
             raise Trouble("the query is too long")
         try:
-            # A service that refuses the connection says why and closes it, maybe before the query is sent.
+            # A service that refuses the connection says why and closes it, maybe before the query
+            # is sent.
             with suppress(BrokenPipeError, ConnectionResetError):
                 self.socket.sendall(line)
             first = self._line()

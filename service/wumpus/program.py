@@ -189,4 +189,3 @@ class Talk:
     def close(self) -> None:
         """Closes what it took of the system."""
         self.selector.close()
-

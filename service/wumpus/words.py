@@ -9,8 +9,9 @@ WORDS_OF_RANKING = 64
 
 
 def word_of(run: bytes) -> bytes:
-    """The word of a run: the text at its front folded, in the rest ASCII letters lowered, cut to 64 bytes.
+    """The word of a run: the text at its front folded, in the rest ASCII letters lowered.
 
+    It is cut to 64 bytes.
     Python folds by its own version of Unicode, which may not know the newest letters.
     """
     try:
