@@ -59,10 +59,16 @@ class Pace:
             print(f"{self.name}: {of} after {self.spent():.0f} s", flush=True)
 
 
+def absolute(path: str) -> str:
+    """The path from the root on, for a program that is run in another folder."""
+    return os.path.abspath(path)
+
+
 def options(about: str) -> argparse.ArgumentParser:
     """Options that each test has."""
     parser = argparse.ArgumentParser(description=about)
-    parser.add_argument("--program", default=str(BUILT), help="the program wumpus")
+    add = parser.add_argument
+    add("--program", type=absolute, default=str(BUILT), help="the program wumpus")
     parser.add_argument("--seed", type=int, default=1)
     return parser
 

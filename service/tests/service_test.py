@@ -21,7 +21,8 @@ from pathlib import Path
 from harness import SERVICE, Score, folder_of_own, needs_program, needs_root, options
 from kernel import User, become
 
-SLOWEST = 2.0  # seconds
+SLOWEST = 2.0  # seconds that an answer may take
+SLOWER = 20  # times as much as alone, where that is more
 FILES = 40
 
 
@@ -242,7 +243,12 @@ def good_client(sockets: Path, seconds: float) -> bytes:
 
 
 def beside_hostile(served: Served, score: Score, seconds: float) -> None:
-    """One good client beside two hundred hostile connections."""
+    """One good client beside two hundred hostile connections.
+
+    On a machine with other work she is slow alone too, so that is measured first.
+    """
+    alone = [int(one) for one in as_user(ANN, lambda: good_client(served.sockets, 2.0)).split()]
+    limit = max(SLOWEST * 1000, SLOWER * alone[2])
     children = [hostile_user(5000 + one, served.sockets, seconds) for one in range(10)]
     time.sleep(0.3)
     told = as_user(ANN, lambda: good_client(served.sockets, seconds - 1)).split()
@@ -250,9 +256,10 @@ def beside_hostile(served: Served, score: Score, seconds: float) -> None:
         os.waitpid(child, 0)
     wrong, count, slowest = (int(one) for one in told)
     print(f"service: {count} answers beside 200 hostile connections, the slowest {slowest} ms")
+    print(f"service: alone it was {alone[1]} in 2 s, the slowest {alone[2]} ms")
     score.check(wrong == 0, f"{wrong} of {count} answers were wrong")
-    score.check(count > 10, f"{count} answers")
-    score.check(slowest < SLOWEST * 1000, f"an answer after {slowest} ms")
+    score.check(count > min(10, alone[1] // 4), f"{count} answers")
+    score.check(slowest < limit, f"an answer after {slowest} ms")
     assert served.process is not None
     score.check(served.process.poll() is None, "the service goes on")
 
