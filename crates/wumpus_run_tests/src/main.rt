@@ -65,8 +65,9 @@ impl Subject for Tables<'_> {
                 stores::failing_in_turn(alloc, words, script, next)
             }
             ("each stop", [words, script, next]) => {
-                stores::crashed_in_turn(alloc, words, script, next)
+                stores::crashed_in_turn(alloc, &mut self.stored, words, script, next)
             }
+            ("each stop", [change, argument]) => self.stored.change(alloc, change, argument),
             ("lost blobs", [script]) => stores::losing(alloc, script),
             ("folder", [words, script]) => folders::session(self.rt, alloc, words, script),
             ("changed part", [last]) => engines::counted_over(alloc, last),

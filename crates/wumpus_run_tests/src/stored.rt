@@ -8,6 +8,9 @@ use wumpus_run::run;
 /// The numbers of the blobs that are looked for.
 const BLOBS: u64 = 64;
 
+/// The length of a root.
+const ROOT_LEN: usize = 40;
+
 /// A store, over which one session runs after the other.
 #[derive(Drop)]
 pub struct Stored {
@@ -102,6 +105,25 @@ impl Stored {
         let mut text = String::new(alloc);
         self.put_blobs(&mut text)?;
         Ok(text)
+    }
+
+    /// A store that holds the same, synced, and of which all calls fail from that one on. The calls
+    /// that make it are counted.
+    pub fn copied(&mut self, alloc: Global, stop_from: u64) -> Result<MemStore, NoAnswer> {
+        let mut copy = MemStore::new(alloc, Vec::new(alloc), stop_from);
+        for blob in 0..BLOBS {
+            if let Some(length) = done(self.store.size(blob))? {
+                let mut bytes = vec![in alloc; 0u8; length as usize]?;
+                done(self.store.read(blob, 0, bytes.as_mut_slice()))?;
+                done(copy.put(blob, bytes.as_slice()))?;
+            }
+        }
+        let mut root = [0; ROOT_LEN];
+        if done(self.store.root(&mut root))?.is_some() {
+            done(copy.set_root(&root))?;
+        }
+        done(copy.sync())?;
+        Ok(copy)
     }
 
     /// Cuts the blob to its first bytes.

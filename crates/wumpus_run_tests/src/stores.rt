@@ -1,5 +1,6 @@
 //! Sessions over stores that fail or lose what they are given.
 use crate::statuses::name_of;
+use crate::stored::Stored;
 use std::alloc::Global;
 use wu_outside::{Fault, MemSink, MemSource, MemStore, Store};
 use wu_rows::{NoAnswer, numbers, script, shown, words};
@@ -97,37 +98,40 @@ pub fn failing_in_turn(
 /// What of the changes since its last sync a store keeps that stops: none, all, or those of two neighbours that stand at a pattern.
 const CHOICES: [u64; 3] = [0, u64::MAX, 0x5555_5555_5555_5555];
 
-/// What the session that the words ask for has written where the store stops at one of its calls, one in each of so many runs, and
-/// what the next session writes over what a crash then left, for each of the choices: told from each call on where one of these differs.
+/// What the session that the words ask for has written over what is stored, where the store stops at
+/// one of its calls, one in each of so many runs, and what the next session writes over what a crash
+/// then left, for each of the choices: told from each call on where one of these differs.
 pub fn crashed_in_turn(
     alloc: Global,
+    stored: &mut Stored,
     words_field: &str,
     field: &str,
     next_field: &str,
 ) -> Result<String, NoAnswer> {
     let words = words(alloc, words_field)?;
-    let mut store = MemStore::new(alloc, Vec::new(alloc), u64::MAX);
+    let mut store = stored.copied(alloc, u64::MAX)?;
+    let first = store.calls();
     let mut text = ending(alloc, words.as_slice(), &mut store, field)?;
     let mut last = String::new(alloc);
-    for call in 0..store.calls() {
-        let told = crashed_at(alloc, words.as_slice(), field, next_field, call)?;
+    for call in first..store.calls() {
+        let store = stored.copied(alloc, call)?;
+        let told = crashed(alloc, words.as_slice(), store, field, next_field)?;
         if told.as_str() != last.as_str() {
-            write!(text, " | {call} {told}")?;
+            write!(text, " | {} {told}", call - first)?;
             last = told;
         }
     }
     Ok(text)
 }
 
-/// The same where it stops at that call.
-fn crashed_at(
+/// The same over this store, which stops.
+fn crashed(
     alloc: Global,
     words: &[&str],
+    mut store: MemStore,
     field: &str,
     next_field: &str,
-    call: u64,
 ) -> Result<String, NoAnswer> {
-    let mut store = MemStore::new(alloc, Vec::new(alloc), call);
     let mut text = ending(alloc, words, &mut store, field)?;
     for choice in CHOICES {
         let mut left = store.crashed(choice)?;
