@@ -272,7 +272,10 @@ returns-in-Ok-None-clause-untouched g c =
 
 pub returns-in-Ok-None-clause-check : goal.returns-in-Ok-None-clause-check
 returns-in-Ok-None-clause-check g c =
-    by_line (λ line. IfCheck line _) _ (texts_of c.args.words.now) None c.in-Ok-None.field-0-is c.in-Ok-None.ensures tt
+    by_line (λ line. IfCheck line (ChecksStore Usage
+    (moment g.I.Source g.O.Sink g.D.Store c.args.source.now c.args.sink.now c.args.store.now)
+    (moment g.I.Source g.O.Sink g.D.Store c.args.source.now c.args.sink.now c.args.store.now)
+    (g.D.Store.moments c.args.store.now) (g.D.Store.moments c.args.store.now))) _ (texts_of c.args.words.now) None c.in-Ok-None.field-0-is c.in-Ok-None.ensures tt
 
 pub returns-in-Ok-Some-Demo-clause-untouched : goal.returns-in-Ok-Some-Demo-clause-untouched
 returns-in-Ok-Some-Demo-clause-untouched g c =
@@ -283,7 +286,10 @@ returns-in-Ok-Some-Demo-clause-untouched g c =
 pub returns-in-Ok-Some-Demo-clause-check : goal.returns-in-Ok-Some-Demo-clause-check
 returns-in-Ok-Some-Demo-clause-check g c =
     let is = c.in-Ok-Some-Demo in
-    by_line (λ line. IfCheck line _) is.field-0 (texts_of c.args.words.now) (Some (Demo is.number))
+    by_line (λ line. IfCheck line (ChecksStore c.demo.result
+    (moment g.I.Source g.O.Sink g.D.Store c.args.source.now c.args.sink.now c.args.store.now)
+    (moment g.I.Source g.O.Sink g.D.Store c.args.source.now c.demo.new.sink c.args.store.now)
+    (g.D.Store.moments c.args.store.now) (g.D.Store.moments c.args.store.now))) is.field-0 (texts_of c.args.words.now) (Some (Demo is.number))
     (is.field-0-is ∙ ap Some is.field-0-0-is) is.ensures tt
 
 pub returns-in-Ok-Some-Run-clause-untouched : goal.returns-in-Ok-Some-Run-clause-untouched
@@ -296,7 +302,10 @@ returns-in-Ok-Some-Run-clause-untouched g c =
 pub returns-in-Ok-Some-Run-clause-check : goal.returns-in-Ok-Some-Run-clause-check
 returns-in-Ok-Some-Run-clause-check g c =
     let is = c.in-Ok-Some-Run in
-    by_line (λ line. IfCheck line _) is.field-0 (texts_of c.args.words.now) (Some (Run is.settings))
+    by_line (λ line. IfCheck line (ChecksStore c.answer_script.result
+    (moment g.I.Source g.O.Sink g.D.Store c.args.source.now c.args.sink.now c.args.store.now)
+    (moment g.I.Source g.O.Sink g.D.Store c.answer_script.new.source c.answer_script.new.sink c.answer_script.new.store)
+    (g.D.Store.moments c.args.store.now) (g.D.Store.moments c.answer_script.new.store))) is.field-0 (texts_of c.args.words.now) (Some (Run is.settings))
     (is.field-0-is ∙ ap Some is.field-0-0-is) is.ensures tt
 
 -- ---- a check of the store
