@@ -3,7 +3,7 @@ use std::alloc::Global;
 use wu_options::{CommandLine, read_command_line};
 use wu_rows::{NoAnswer, plain_text, words};
 
-/// What the words ask for: `none`, `demo` and its number, or `run` with the greatest input and the postings at which to flush.
+/// What the words ask for: `none`, `check`, `demo` and its number, or `run` with the greatest input and the postings at which to flush.
 pub fn asked_for(alloc: Global, field: &str) -> Result<String, NoAnswer> {
     let words = words(alloc, field)?;
     let line = read_command_line(alloc, words.as_slice())?;
@@ -16,6 +16,7 @@ fn text_of(alloc: Global, line: Option<CommandLine>) -> Result<String, NoAnswer>
             Ok(format!(in alloc; "run {} {}", settings.max_input, settings.flush_at)?)
         }
         Some(CommandLine::Demo(number)) => Ok(format!(in alloc; "demo {number}")?),
+        Some(CommandLine::Check) => plain_text(alloc, "check"),
         None => plain_text(alloc, "none"),
     }
 }
