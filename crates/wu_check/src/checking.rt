@@ -17,8 +17,8 @@ use wu_outside::{Fault, Store};
 /// What a checker finds of a store.
 #[derive(Clone, Copy, Debug, PartialEq, Eq)]
 pub enum Checked {
-    /// Nothing is wrong. There are so many regular files, addresses in their ranges, postings in the index,
-    /// and parts of it.
+    /// Nothing is wrong. There are so many regular files, addresses in their ranges, postings in
+    /// the index, and parts of it.
     Sound {
         files: u64,
         live: u64,
@@ -31,12 +31,14 @@ pub enum Checked {
     },
 }
 
-/// Reads the whole store, and finds the first that is wrong in it, in this order: the root, the checkpoint, the texts
-/// by their addresses, the parts from left to right; or counts what it holds. A store without a root is sound, and holds
-/// nothing. Errors are a fault of the store, only where its count rose, and out of memory. Takes memory for the
-/// checkpoint, for one part and for one text.
+/// Reads the whole store, and finds the first that is wrong in it, in this order: the root, the
+/// checkpoint, the texts by their addresses, the parts from left to right; or counts what it holds.
+/// A store without a root is sound, and holds nothing. Errors are a fault of the store, only where
+/// its count rose, and out of memory. Takes memory for the checkpoint, for one part and for one
+/// text.
 pub fn check<D: Store>(alloc: Global, store: &mut D) -> Result<Checked, Fault>
-    ensures checked { IfOk result (λ checked. IfSome (D.holds store.old) (λ content. IsChecked content checked)) }
+    ensures checked { IfOk result (λ checked. IfSome (D.holds store.old)
+        (λ content. IsChecked content checked)) }
     ensures reads { OnlyReads D.Store store.old store.new result }
     ensures cause { HasFaultCause (D.faults store.old) (D.faults store.new) result }
 {
@@ -58,7 +60,8 @@ pub fn check<D: Store>(alloc: Global, store: &mut D) -> Result<Checked, Fault>
 /// What is found under the root.
 fn check_saved<D: Store>(alloc: Global, store: &mut D, root: &Root) -> Result<Checked, Fault>
     requires { IfSome (D.holds store.old) (λ content. IsRootOf content root.now) }
-    ensures checked { IfOk result (λ checked. IfSome (D.holds store.old) (λ content. IsChecked content checked)) }
+    ensures checked { IfOk result (λ checked. IfSome (D.holds store.old)
+        (λ content. IsChecked content checked)) }
     ensures reads { OnlyReads D.Store store.old store.new result }
     ensures cause { HasFaultCause (D.faults store.old) (D.faults store.new) result }
 {

@@ -17,8 +17,8 @@ pub(crate) fn counted_parts(version: u8, checkpoint: &Checkpoint) -> &[PartRec]
     }
 }
 
-/// How many files, live addresses, postings and parts a store of that version has. In the first version the postings are
-/// those of the texts.
+/// How many files, live addresses, postings and parts a store of that version has. In the first
+/// version the postings are those of the texts.
 pub(crate) fn counts(version: u8, files: &[FileRec], parts: &[PartRec]) -> Checked
     requires live { live_of files.now < 2 ^ 64 }
     requires stored { sum_by (λ part. part.stored) parts.now < 2 ^ 64 }

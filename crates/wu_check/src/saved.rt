@@ -16,12 +16,13 @@ use wu_base::{NoMemory, PartRec};
 use wu_image::{Checkpoint, FileRec, Root, read_checkpoint, read_root};
 use wu_outside::{Fault, Store};
 
-/// The root of which the store gave the length and the first bytes. None where these aren't all of its bytes or no root's
-/// spelling. Takes no memory.
+/// The root of which the store gave the length and the first bytes. None where these aren't all of
+/// its bytes or no root's spelling. Takes no memory.
 pub(crate) fn root_given(count: usize, bytes: &[u8]) -> Option<Root>
     ensures whole { IfSome result (λ root. count ≡ length bytes.now) }
     ensures found { IfSome result (λ root. SpellsRoot root bytes.now) }
-    ensures none { IfNone result ((root : Root) → count ≡ length bytes.now → SpellsRoot root bytes.now → ⊥) }
+    ensures none { IfNone result ((root : Root) → count ≡ length bytes.now
+        → SpellsRoot root bytes.now → ⊥) }
 {
     if count == bytes.len() {
         read_root(bytes)
@@ -50,12 +51,13 @@ pub(crate) fn checkpoint_of<D: Store>(
     }
 }
 
-/// The checkpoint of the root, of which these are the bytes, as many as it says. None where they are no checkpoint's, or
-/// one that isn't as the root says. The one error is out of memory.
+/// The checkpoint of the root, of which these are the bytes, as many as it says. None where they
+/// are no checkpoint's, or one that isn't as the root says. The one error is out of memory.
 fn checkpoint_in(alloc: Global, root: &Root, bytes: &[u8]) -> Result<Option<Checkpoint>, NoMemory>
     requires { length bytes.now ≡ root.now.size }
     ensures found { IfOk result (λ found. IfSome found (IsSoundCheckpoint root.now bytes.now)) }
-    ensures none { IfOk result (λ found. IfNone found ((checkpoint : Checkpoint) → IsSoundCheckpoint root.now bytes.now checkpoint → ⊥)) }
+    ensures none { IfOk result (λ found. IfNone found ((checkpoint : Checkpoint)
+        → IsSoundCheckpoint root.now bytes.now checkpoint → ⊥)) }
 {
     match read_checkpoint(alloc, bytes)? {
         Some(checkpoint) => Ok(if_own(checkpoint, root)),
@@ -65,7 +67,8 @@ fn checkpoint_in(alloc: Global, root: &Root, bytes: &[u8]) -> Result<Option<Chec
 
 /// The checkpoint, where it is as the root says.
 fn if_own(checkpoint: Checkpoint, root: &Root) -> Option<Checkpoint>
-    ensures { MatchOption result (IsOwn root.now checkpoint → ⊥) (λ own. (own ≡ checkpoint) × IsOwn root.now own) }
+    ensures { MatchOption result (IsOwn root.now checkpoint → ⊥)
+        (λ own. (own ≡ checkpoint) × IsOwn root.now own) }
 {
     if is_own(&checkpoint, root) {
         Some(checkpoint)
@@ -74,8 +77,8 @@ fn if_own(checkpoint: Checkpoint, root: &Root) -> Option<Checkpoint>
     }
 }
 
-/// Whether the checkpoint has the root's numbers, its own blob is none of its texts' and parts', and, in the second
-/// version, it tells no more flushes than addresses.
+/// Whether the checkpoint has the root's numbers, its own blob is none of its texts' and parts',
+/// and, in the second version, it tells no more flushes than addresses.
 fn is_own(checkpoint: &Checkpoint, root: &Root) -> bool
     ensures { MatchBool result (IsOwn root.now checkpoint.now) (IsOwn root.now checkpoint.now → ⊥) }
 {
@@ -102,7 +105,8 @@ fn is_no_part(blob: u64, parts: &[PartRec]) -> bool
     parts.iter().all(|part| part.blob != blob)
 }
 
-/// Whether the checkpoint of a store of that version tells no more flushes than addresses, where the version counts them.
+/// Whether the checkpoint of a store of that version tells no more flushes than addresses, where
+/// the version counts them.
 fn has_few_flushes(checkpoint: &Checkpoint, version: u8) -> bool
     ensures { MatchBool result (version ≡ 2 → checkpoint.now.flushes ≤ checkpoint.now.next_address)
         ((version ≡ 2 → checkpoint.now.flushes ≤ checkpoint.now.next_address) → ⊥) }

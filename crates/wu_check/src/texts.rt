@@ -32,14 +32,15 @@ pub(crate) fn by_address(alloc: Global, files: &[FileRec]) -> Result<Vec<FileRec
     Ok(order)
 }
 
-/// The recorded text, which has the recorded length; the empty text is not read. None where its blob is absent or has
-/// another size.
+/// The recorded text, which has the recorded length; the empty text is not read. None where its
+/// blob is absent or has another size.
 fn text_of<D: Store>(alloc: Global, store: &mut D, file: &FileRec) -> Result<Option<Vec<u8>>, Fault>
     requires { IsReadable file.now }
     ensures found { IfOk result (λ found. IfSome found (λ text. IfSome (D.holds store.old)
         (λ content. IsTextIn content file.now text.items))) }
     ensures size { IfOk result (λ found. IfSome found (λ text. length text.items ≡ file.now.len)) }
-    ensures none { IfOk result (λ found. IfNone found (IfSome (D.holds store.old) (λ content. IsWrongText content file.now))) }
+    ensures none { IfOk result (λ found. IfNone found (IfSome (D.holds store.old)
+        (λ content. IsWrongText content file.now))) }
     ensures reads { OnlyReads D.Store store.old store.new result }
     ensures cause { HasFaultCause (D.faults store.old) (D.faults store.new) result }
 {
@@ -51,7 +52,8 @@ fn text_of<D: Store>(alloc: Global, store: &mut D, file: &FileRec) -> Result<Opt
 
 /// Whether a text of so many tokens has as many as the file's range is long. The empty text has.
 fn has_tokens(file: &FileRec, count: u64) -> bool
-    ensures { MatchBool result (0 < file.now.blob → count ≡ file.now.range.len) ((0 < file.now.blob) × (count ≢ file.now.range.len)) }
+    ensures { MatchBool result (0 < file.now.blob → count ≡ file.now.range.len)
+        ((0 < file.now.blob) × (count ≢ file.now.range.len)) }
 {
     file.blob == 0 || count == file.range.len
 }
@@ -60,7 +62,8 @@ fn has_tokens(file: &FileRec, count: u64) -> bool
 fn is_whole<D: Store>(alloc: Global, store: &mut D, file: &FileRec) -> Result<bool, Fault>
     requires { IsReadable file.now }
     ensures whole { IfOk result (λ whole. IfSome (D.holds store.old)
-        (λ content. MatchBool whole (IsWrongText content file.now → ⊥) (IsWrongText content file.now))) }
+        (λ content. MatchBool whole (IsWrongText content file.now → ⊥)
+        (IsWrongText content file.now))) }
     ensures reads { OnlyReads D.Store store.old store.new result }
     ensures cause { HasFaultCause (D.faults store.old) (D.faults store.new) result }
 {
@@ -77,7 +80,8 @@ pub(crate) fn first_broken<D: Store>(
     files: &[FileRec],
 ) -> Result<Option<u64>, Fault>
     requires { AllByRecursion IsReadable files.now }
-    ensures found { IfOk result (λ found. IfSome (D.holds store.old) (λ content. FindsText content files.now found)) }
+    ensures found { IfOk result (λ found. IfSome (D.holds store.old)
+        (λ content. FindsText content files.now found)) }
     ensures reads { OnlyReads D.Store store.old store.new result }
     ensures cause { HasFaultCause (D.faults store.old) (D.faults store.new) result }
 {
@@ -89,8 +93,8 @@ pub(crate) fn first_broken<D: Store>(
     Ok(None)
 }
 
-/// Whether the part that is indexed has the tokens of the recorded text, whose range begins at that place among the
-/// index's numbers. None where the text isn't as it was recorded.
+/// Whether the part that is indexed has the tokens of the recorded text, whose range begins at that
+/// place among the index's numbers. None where the text isn't as it was recorded.
 pub(crate) fn compare_file<D: Store>(
     alloc: Global,
     store: &mut D,
@@ -99,8 +103,9 @@ pub(crate) fn compare_file<D: Store>(
     file: &FileRec,
 ) -> Result<Option<bool>, Fault>
     requires { IsReadable file.now }
-    ensures compared { IfOk result (λ found. (ranges : List Range) (lists : List TermList) → IsIndexFor ranges lists index.now
-        → IsAtPlace ranges place file.now.range → IfSome (D.holds store.old) (λ content. IsCompared content lists file.now found)) }
+    ensures compared { IfOk result (λ found. (ranges : List Range) (lists : List TermList)
+        → IsIndexFor ranges lists index.now → IsAtPlace ranges place file.now.range
+        → IfSome (D.holds store.old) (λ content. IsCompared content lists file.now found)) }
     ensures reads { OnlyReads D.Store store.old store.new result }
     ensures cause { HasFaultCause (D.faults store.old) (D.faults store.new) result }
 {
@@ -114,10 +119,13 @@ pub(crate) fn compare_file<D: Store>(
 fn compare_with(index: &PartIndex, place: usize, file: &FileRec, text: &[u8]) -> Option<bool>
     requires file { IsReadable file.now }
     requires size { length text.now ≡ file.now.len }
-    ensures none { IfNone result ((0 < file.now.blob) × (length (tokens_of text.now) ≢ file.now.range.len)) }
-    ensures some { IfSome result (λ same. 0 < file.now.blob → length (tokens_of text.now) ≡ file.now.range.len) }
-    ensures same { IfSome result (λ same. (ranges : List Range) (lists : List TermList) → IsIndexFor ranges lists index.now
-        → IsAtPlace ranges place file.now.range → MatchBool same (HaveTermsFrom lists file.now.range.start (tokens_of text.now))
+    ensures none { IfNone result ((0 < file.now.blob)
+        × (length (tokens_of text.now) ≢ file.now.range.len)) }
+    ensures some { IfSome result (λ same. 0 < file.now.blob
+        → length (tokens_of text.now) ≡ file.now.range.len) }
+    ensures same { IfSome result (λ same. (ranges : List Range) (lists : List TermList)
+        → IsIndexFor ranges lists index.now → IsAtPlace ranges place file.now.range
+        → MatchBool same (HaveTermsFrom lists file.now.range.start (tokens_of text.now))
         (HaveTermsFrom lists file.now.range.start (tokens_of text.now) → ⊥)) }
 {
     let compared = compare_text(index, place, text);

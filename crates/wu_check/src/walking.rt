@@ -31,9 +31,10 @@ enum Verdict {
     BrokenText { blob: u64 },
 }
 
-/// The blob of the first text that isn't as it was recorded, or, where all are, of the leftmost part that isn't, or
-/// that hasn't the tokens of the texts within its span. The files stand in the order of their addresses, and the parts
-/// from left to right. Each text and each part is read once.
+/// The blob of the first text that isn't as it was recorded, or, where all are, of the leftmost
+/// part that isn't, or that hasn't the tokens of the texts within its span. The files stand in the
+/// order of their addresses, and the parts from left to right. Each text and each part is read
+/// once.
 pub(crate) fn first_wrong<D: Store>(
     alloc: Global,
     store: &mut D,
@@ -44,9 +45,11 @@ pub(crate) fn first_wrong<D: Store>(
     requires ascend { IsNonDecreasingBy (λ file. file.range.start) files.now }
     requires apart { AreApart (ranges_of files.now) }
     requires homes { 0 < length parts.now
-        → AllByRecursion (λ file. list_any (λ part. lies_in file.range part) parts.now ≡ true) files.now }
+        → AllByRecursion (λ file. list_any (λ part. lies_in file.range part) parts.now ≡ true)
+        files.now }
     requires spans { (next : ℕ) × SpansAscend 0 parts.now next }
-    ensures found { IfOk result (λ found. IfSome (D.holds store.old) (λ content. FindsWrong content files.now parts.now found)) }
+    ensures found { IfOk result (λ found. IfSome (D.holds store.old)
+        (λ content. FindsWrong content files.now parts.now found)) }
     ensures reads { OnlyReads D.Store store.old store.new result }
     ensures cause { HasFaultCause (D.faults store.old) (D.faults store.new) result }
 {
@@ -67,8 +70,8 @@ pub(crate) fn first_wrong<D: Store>(
     }
 }
 
-/// How many of the files, which stand in the order of their addresses, start at or before the address: the first ones.
-/// Takes time logarithmic in their number.
+/// How many of the files, which stand in the order of their addresses, start at or before the
+/// address: the first ones. Takes time logarithmic in their number.
 fn count_started(files: &[FileRec], address: u64) -> usize
     requires { IsNonDecreasingBy (λ file. file.range.start) files.now }
     ensures within { result ≤ length files.now }
@@ -88,7 +91,8 @@ fn leftmost(wrong: Option<u64>, verdict: Verdict, blob: u64) -> Option<u64>
     }
 }
 
-/// What is found of the part and of the texts of these files, whose ranges lie within its span, in their order.
+/// What is found of the part and of the texts of these files, whose ranges lie within its span, in
+/// their order.
 fn check_part<D: Store>(
     alloc: Global,
     store: &mut D,
@@ -98,7 +102,8 @@ fn check_part<D: Store>(
     requires files { AllByRecursion IsReadable files.now }
     requires apart { AreApart (ranges_of files.now) }
     requires lie { AllByRecursion (λ file. lies_in file.range part.now ≡ true) files.now }
-    ensures verdict { IfOk result (λ verdict. IfSome (D.holds store.old) (λ content. IsVerdict content part.now files.now verdict)) }
+    ensures verdict { IfOk result (λ verdict. IfSome (D.holds store.old)
+        (λ content. IsVerdict content part.now files.now verdict)) }
     ensures reads { OnlyReads D.Store store.old store.new result }
     ensures cause { HasFaultCause (D.faults store.old) (D.faults store.new) result }
 {
@@ -118,7 +123,8 @@ fn without_part(broken: Option<u64>) -> Verdict
     }
 }
 
-/// The part's lists, indexed by the ranges of the files. None where the part isn't as it was recorded.
+/// The part's lists, indexed by the ranges of the files. None where the part isn't as it was
+/// recorded.
 fn index_of<D: Store>(
     alloc: Global,
     store: &mut D,
@@ -129,7 +135,8 @@ fn index_of<D: Store>(
     requires lie { AllByRecursion (λ file. lies_in file.range part.now ≡ true) files.now }
     ensures found { IfOk result (λ found. IfSome found (λ index. IfSome (D.holds store.old)
         (λ content. HasIndex content part.now files.now index))) }
-    ensures long { IfOk result (λ found. IfSome found (λ index. length index.numbers.items ≡ total_of (ranges_of files.now))) }
+    ensures long { IfOk result (λ found. IfSome found
+        (λ index. length index.numbers.items ≡ total_of (ranges_of files.now))) }
     ensures none { IfOk result (λ found. IfNone found (IfSome (D.holds store.old)
         (λ content. IsBroken part.now (content.blobs part.now.blob)))) }
     ensures reads { OnlyReads D.Store store.old store.new result }
@@ -157,7 +164,8 @@ fn ranges_of(alloc: Global, files: &[FileRec]) -> Result<Vec<Range>, NoMemory>
     Ok(ranges)
 }
 
-/// Compares the texts of the files, one after another, with the part that is indexed by their ranges.
+/// Compares the texts of the files, one after another, with the part that is indexed by their
+/// ranges.
 fn compare_texts<D: Store>(
     alloc: Global,
     store: &mut D,
@@ -166,7 +174,8 @@ fn compare_texts<D: Store>(
 ) -> Result<Verdict, Fault>
     requires files { AllByRecursion IsReadable files.now }
     requires long { length index.now.numbers.items ≡ total_of (ranges_of files.now) }
-    ensures compared { IfOk result (λ verdict. (lists : List TermList) → IsIndexFor (ranges_of files.now) lists index.now
+    ensures compared { IfOk result (λ verdict. (lists : List TermList)
+        → IsIndexFor (ranges_of files.now) lists index.now
         → IfSome (D.holds store.old) (λ content. AreCompared content lists files.now verdict)) }
     ensures reads { OnlyReads D.Store store.old store.new result }
     ensures cause { HasFaultCause (D.faults store.old) (D.faults store.new) result }
