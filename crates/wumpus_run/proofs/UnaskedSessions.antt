@@ -197,7 +197,7 @@ pub check_only : (status : Status) (before now : Moment) → now.read_faults ≡
     → IsCounted StoreFault status before.store_faults now.store_faults → IsUnasked status before now
 check_only status before now read found write store =
     let other = λ (fault : Status) (d : fault ≡ Done → ⊥) (w : fault ≡ WriteFault → ⊥) (s : fault ≡ StoreFault → ⊥)
-        (m : fault ≡ NoMemory → ⊥) (e : status ≡ fault).
+    (m : fault ≡ NoMemory → ⊥) (e : status ≡ fault).
     ⊎_elim (λ is. d (sym e ∙ is)) (λ rest. ⊎_elim (λ is. w (sym e ∙ is)) (λ last. ⊎_elim (λ is. s (sym e ∙ is)) (λ is. m (sym e ∙ is))
     last) rest) found.ends in
     record {
