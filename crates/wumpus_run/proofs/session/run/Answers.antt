@@ -1,4 +1,4 @@
-use Rattle.std.proofs.Common.{Option, Some, ap, refl, sym, ◌∙◌, subst}
+use Rattle.std.proofs.Common.{Option, None, Some, ap, refl, sym, ◌∙◌, subst}
 use Rattle.wu_options.specs.CommandLines.{command_line_of, texts_of}
 use Rattle.wu_options.specs.declared.command_lines.CommandLine.TheVariants.{Run, Demo, Check}
 use Rattle.wu_options.specs.declared.command_lines.Settings.{Settings}
