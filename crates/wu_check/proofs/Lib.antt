@@ -7,6 +7,7 @@ pub mod FirstLemmas
 pub mod IndexedParts
 pub mod NumberLemmas
 pub mod NumberedLists
+pub mod OneFinding
 pub mod OwnCheckpoints
 pub mod PartDirectories
 pub mod PartLists
