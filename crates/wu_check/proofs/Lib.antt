@@ -14,6 +14,7 @@ pub mod PartLists
 pub mod PartedFiles
 pub mod Placing
 pub mod ReadLists
+pub mod SoundImages
 pub mod SoundParts
 pub mod ToldContents
 pub mod Walks
