@@ -5,6 +5,7 @@ pub mod ComparedTokens
 pub mod DistinctNumbers
 pub mod FirstLemmas
 pub mod IndexedParts
+pub mod ListPostings
 pub mod NumberLemmas
 pub mod NumberedLists
 pub mod OneFinding
@@ -16,5 +17,6 @@ pub mod Placing
 pub mod ReadLists
 pub mod SoundImages
 pub mod SoundParts
+pub mod SoundPostings
 pub mod ToldContents
 pub mod Walks

@@ -1,11 +1,15 @@
 //! Laws of what a checker finds.
-ghost use Rattle.std.specs.Prelude.{◌≡◌, ℕ, Bool};
-ghost use Rattle.wu_layout.specs.Layouts.{Layout};
+ghost use Rattle.std.specs.Prelude.{◌≡◌, ℕ, Bool, List, length};
+ghost use Rattle.std.specs.List.{AllByRecursion};
+ghost use Rattle.wu_base.specs.declared.addresses.PartRec.{PartRec};
+ghost use Rattle.wu_layout.specs.Layouts.{Layout, Part};
 ghost use Rattle.wu_outside.specs.Content.{Content};
+ghost use Rattle.wu_token.specs.Tokens.{tokens_of};
 ghost use Rattle.wu_tree.specs.FileSystems.{FileSystem};
 ghost use Rattle.wu_image.specs.Images.{IsImage, Texts};
-ghost use Rattle.wu_check.specs.Imaged.{IndexesTexts, counts_in};
-ghost use Rattle.wu_check.specs.Wrong.{IsChecked, IsSound};
+ghost use Rattle.wu_image.specs.declared.records.FileRec.{FileRec};
+ghost use Rattle.wu_check.specs.Imaged.{HasPostings, IndexesTexts, counts_in};
+ghost use Rattle.wu_check.specs.Wrong.{IsChecked, IsSound, IsSoundPart, text_held};
 ghost use Rattle.wu_check.specs.declared.checking.Checked.{Checked};
 
 /// A law: of one content one thing is found. A store that is sound has nothing wrong in it, its
@@ -22,4 +26,14 @@ pub fn an_image_is_sound()
     ensures { (content : Content) (tree : FileSystem) (texts : Texts) (layout : Layout)
         (is_file : ℕ → Bool) → IsImage content tree texts layout
         → IndexesTexts is_file texts layout → IsSound content (counts_in layout) }
+{}
+
+/// A law: a sound part is a part of an index. Where the ranges of the texts are as long as their
+/// tokens are many, there are postings of which its blob is the part, and these are those of the
+/// texts that lie within its span.
+pub fn a_part_has_its_postings()
+    ensures { (content : Content) (files : List FileRec) (recorded : PartRec)
+        → IsSoundPart content files recorded → AllByRecursion
+        (λ file. file.range.len ≡ length (tokens_of (text_held content file))) files
+        → (part : Part) × HasPostings content files recorded part }
 {}
