@@ -18,5 +18,6 @@ pub mod ReadLists
 pub mod SoundImages
 pub mod SoundParts
 pub mod SoundPostings
+pub mod StoredImages
 pub mod ToldContents
 pub mod Walks

@@ -10,8 +10,8 @@ use Rattle.std.proofs.lemmas.Bool.{cases_eq, lt-ltb}
 use Rattle.std.proofs.lemmas.Cmp.{nat_list_cmp_total, tied_itself}
 use Rattle.std.proofs.lemmas.Map.Lookups.{exact_bytes, exact_unsigned}
 use Rattle.wu_base.specs.declared.addresses.TermList.{TermList}
-use Rattle.wu_base.proofs.Members.{Contains-from_Has, Has, Has-append_cases, Has-append_left, Has-append_right, Has-filter, Has-from_Contains}
-use Rattle.wu_base.proofs.Members.{Has-map, all_has, filter_has, map_has}
+use Rattle.wu_base.proofs.Members.{Contains-from_Has, Has, Has-append_cases, Has-append_left, Has-append_right, Has-filter}
+use Rattle.wu_base.proofs.Members.{Has-from_Contains, Has-map, all_has, filter_has, map_has}
 use Rattle.wu_base.proofs.SortedLists.{same_sorted, sorted_once_is}
 use Rattle.wu_layout.specs.Ascending.{AscendBetween}
 use Rattle.wu_layout.specs.Layouts.{list_of, lists_of, terms_of}
@@ -54,8 +54,8 @@ stands_at (list ∷ lists) address p h =
       | false ↦ λ f i. let r = stands_at lists address p i in (r.0, inr r.1)
     ] refl h
 
-pub its_posting : (lists : List TermList) (address : ℕ) (term : List ℕ) → IsDistinct eqb (addresses_in lists) → HaveTermAt lists address term
-    → at_address lists address ≡ record { address = address; term = term } ∷ []
+pub its_posting : (lists : List TermList) (address : ℕ) (term : List ℕ) → IsDistinct eqb (addresses_in lists)
+    → HaveTermAt lists address term → at_address lists address ≡ record { address = address; term = term } ∷ []
 its_posting [] address term d h = absurd h
 its_posting (list ∷ lists) address term d h =
     ⊎_elim

@@ -19,7 +19,8 @@ use Rattle.wu_image.proofs.RuleLemmas.{texts_filled}
 use Rattle.wu_check.specs.declared.checking.Checked.{Checked}
 use Rattle.wu_check.specs.declared.checking.Checked.TheVariants.{Sound, Broken}
 use Rattle.wu_check.specs.Wrong.{AreSoundTexts, HasCheckpoint, IsChecked, IsFirst, IsFirstPart, IsFirstText, IsRootOf, IsSound}
-use Rattle.wu_check.specs.Wrong.{IsSoundPart, IsSoundUnder, IsWrong, IsWrongIndex, IsWrongPart, IsWrongText, IsWrongUnder, counts_of, parts_of}
+use Rattle.wu_check.specs.Wrong.{IsSoundPart, IsSoundUnder, IsWrong, IsWrongIndex, IsWrongPart, IsWrongText, IsWrongUnder}
+use Rattle.wu_check.specs.Wrong.{counts_of, parts_of}
 
 -- ---- the first of which something holds
 

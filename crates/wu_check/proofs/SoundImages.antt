@@ -219,6 +219,59 @@ module _ (content : Content) where
             (behind part recorded (stored_in parts) low split.0 high split.1.0 split.1.1 filled.0 one files cover),
       )
 
+-- ---- what is counted of an image
+
+module _ (content : Content) (tree : FileSystem) (texts : Texts) (layout : Layout) (code : List ℕ)
+    (saved : HasSaved content code tree texts layout) where
+  stored_alone : layout.memory ≡ [] → postings_of layout.parts layout.memory ≡ stored_in layout.parts
+  stored_alone empty =
+      postings_split layout.parts layout.memory
+      ∙ (ap (λ (ps : List Posting). stored_in layout.parts ++ ps) empty ∙ append-nil (stored_in layout.parts))
+
+  postings_counted : (order : List FileRec)
+      → AllByRecursion (λ file. length (tokens_of (text_of texts file.ino)) ≡ file.range.len) order
+      → length (postings_from (λ file. text_of texts file.ino) order) ≡ live_of order
+  postings_counted [] counted = refl
+  postings_counted (file ∷ order) counted =
+      omega (
+        arith,
+        length-append (placed_from file.range.start (tokens_of (text_of texts file.ino)))
+            (postings_from (λ f. text_of texts f.ino) order),
+        length-placed file.range.start (tokens_of (text_of texts file.ino)),
+        counted.0,
+        sum_by-cons (λ (f : FileRec). f.range.len) file order,
+        postings_counted order counted.1,
+      )
+
+  pub its_counts : counts_in layout ≡ counts_of saved.root.version saved.checkpoint.files (parts_of saved.root.version saved.checkpoint)
+  its_counts =
+      let files : length layout.files ≡ length saved.checkpoint.files =
+      same_length content texts layout.files saved.checkpoint.files saved.files in
+      let live : sum_by (λ entry. entry.1.range.len) layout.files ≡ live_of saved.checkpoint.files =
+      same_live content texts layout.files saved.checkpoint.files saved.files in
+      ⊎_elim
+      (λ (has : HasParts content saved.root saved.checkpoint layout).
+      let stored : length (postings_of layout.parts layout.memory) ≡ sum_by (λ recorded. recorded.stored) saved.checkpoint.parts =
+      ap length (stored_alone has.memory) ∙ same_stored content layout.parts saved.checkpoint.parts has.parts in
+      let parts : length layout.parts ≡ length saved.checkpoint.parts = same_parts content layout.parts saved.checkpoint.parts has.parts in
+      subst (λ (v : ℕ). counts_in layout ≡ counts_of v saved.checkpoint.files (parts_of v saved.checkpoint)) (sym has.version)
+      (rw (files, live, stored, parts) refl))
+      (λ (renewed : IsRenewed saved.root saved.checkpoint texts layout).
+      let order : List FileRec = renewed.order in
+      let counted : AllByRecursion (λ file. length (tokens_of (text_of texts file.ino)) ≡ file.range.len) order =
+      each-permuted (λ file. length (tokens_of (text_of texts file.ino)) ≡ file.range.len) saved.checkpoint.files order
+      renewed.by_address.moved renewed.counted in
+      let moved : live_of order ≡ live_of saved.checkpoint.files =
+      sum_by-IsPermutation (λ (file : FileRec). file.range.len) saved.checkpoint.files order renewed.by_address.moved in
+      let stored : length (postings_of layout.parts layout.memory) ≡ live_of saved.checkpoint.files =
+      ap length (postings_split layout.parts layout.memory)
+      ∙ (ap (λ (ps : List Part). length (stored_in ps ++ layout.memory)) renewed.parts
+      ∙ (ap length renewed.memory ∙ (postings_counted order counted ∙ moved))) in
+      let parts : length layout.parts ≡ 0 = ap length renewed.parts in
+      subst (λ (v : ℕ). counts_in layout ≡ counts_of v saved.checkpoint.files (parts_of v saved.checkpoint)) (sym renewed.version)
+      (rw (files, live, stored, parts) refl))
+      saved.index
+
 -- ---- an image
 
 module _ (content : Content) (tree : FileSystem) (texts : Texts) (layout : Layout) (is_file : ℕ → Bool)
@@ -247,11 +300,6 @@ module _ (content : Content) (tree : FileSystem) (texts : Texts) (layout : Layou
       (text_sound content texts entry file h.0 (indexed entry known.0).long, texts_sound entries files h.1 known.1)
 
   module _ (empty : layout.memory ≡ []) where
-    stored_alone : postings_of layout.parts layout.memory ≡ stored_in layout.parts
-    stored_alone =
-        postings_split layout.parts layout.memory
-        ∙ (ap (λ (ps : List Posting). stored_in layout.parts ++ ps) empty ∙ append-nil (stored_in layout.parts))
-
     covered : (entries : List (ℕ × FileEntry)) (files : List FileRec) → AllZip (HoldsText content texts) entries files
         → AllByRecursion (λ entry. entry_of layout.files entry.0 ≡ Some entry.1) entries
         → AllByRecursion (IsText checkpoint.next_address) files → Cover content 0 (stored_in layout.parts) files
@@ -266,7 +314,7 @@ module _ (content : Content) (tree : FileSystem) (texts : Texts) (layout : Layou
           text_there content texts entry file h.0 (λ none. kept.0.kept.0 none) in
           let same : file.range ≡ entry.1.range = h.0.range in
           rw (same, text)
-          (ap (cut entry.1.range) (sym stored_alone) ∙ whole),
+          (ap (cut entry.1.range) (sym (stored_alone content tree texts layout code saved empty)) ∙ whole),
       covered entries files h.1 known.1 kept.1,
     )
 
@@ -274,7 +322,9 @@ module _ (content : Content) (tree : FileSystem) (texts : Texts) (layout : Layou
         → AllByRecursion (IsSoundPart content checkpoint.files) checkpoint.parts
     all_parts held =
         parts_sound content 0 layout.next checkpoint.files layout.parts checkpoint.parts
-        (subst (λ (ps : List Posting). Ascend 0 layout.next ps) stored_alone rules.addresses.ascend) rules.addresses.filled held
+        (subst (λ (ps : List Posting). Ascend 0 layout.next ps) (stored_alone content tree texts layout code saved empty)
+        rules.addresses.ascend)
+        rules.addresses.filled held
         (covered layout.files checkpoint.files saved.files found saved.spelled.spelled.holds.layout.texts)
 
   few_flushes : saved.root.version ≡ 2 → checkpoint.flushes ≤ checkpoint.next_address
@@ -284,21 +334,6 @@ module _ (content : Content) (tree : FileSystem) (texts : Texts) (layout : Layou
       (λ (renewed : IsRenewed saved.root checkpoint texts layout). absurd (omega (arith, second, renewed.version)))
       saved.index
 
-  postings_counted : (order : List FileRec)
-      → AllByRecursion (λ file. length (tokens_of (text_of texts file.ino)) ≡ file.range.len) order
-      → length (postings_from (λ file. text_of texts file.ino) order) ≡ live_of order
-  postings_counted [] counted = refl
-  postings_counted (file ∷ order) counted =
-      omega (
-        arith,
-        length-append (placed_from file.range.start (tokens_of (text_of texts file.ino)))
-            (postings_from (λ f. text_of texts f.ino) order),
-        length-placed file.range.start (tokens_of (text_of texts file.ino)),
-        counted.0,
-        sum_by-cons (λ (f : FileRec). f.range.len) file order,
-        postings_counted order counted.1,
-      )
-
   its_parts : AllByRecursion (IsSoundPart content checkpoint.files) (parts_of saved.root.version checkpoint)
   its_parts =
       ⊎_elim
@@ -307,34 +342,6 @@ module _ (content : Content) (tree : FileSystem) (texts : Texts) (layout : Layou
       (all_parts has.memory has.parts))
       (λ (renewed : IsRenewed saved.root checkpoint texts layout).
       subst (λ (v : ℕ). AllByRecursion (IsSoundPart content checkpoint.files) (parts_of v checkpoint)) (sym renewed.version) tt)
-      saved.index
-
-  its_counts : counts_in layout ≡ counts_of saved.root.version checkpoint.files (parts_of saved.root.version checkpoint)
-  its_counts =
-      let files : length layout.files ≡ length checkpoint.files = same_length content texts layout.files checkpoint.files saved.files in
-      let live : sum_by (λ entry. entry.1.range.len) layout.files ≡ live_of checkpoint.files =
-      same_live content texts layout.files checkpoint.files saved.files in
-      ⊎_elim
-      (λ (has : HasParts content saved.root checkpoint layout).
-      let stored : length (postings_of layout.parts layout.memory) ≡ sum_by (λ recorded. recorded.stored) checkpoint.parts =
-      ap length (stored_alone has.memory) ∙ same_stored content layout.parts checkpoint.parts has.parts in
-      let parts : length layout.parts ≡ length checkpoint.parts = same_parts content layout.parts checkpoint.parts has.parts in
-      subst (λ (v : ℕ). counts_in layout ≡ counts_of v checkpoint.files (parts_of v checkpoint)) (sym has.version)
-      (rw (files, live, stored, parts) refl))
-      (λ (renewed : IsRenewed saved.root checkpoint texts layout).
-      let order : List FileRec = renewed.order in
-      let counted : AllByRecursion (λ file. length (tokens_of (text_of texts file.ino)) ≡ file.range.len) order =
-      each-permuted (λ file. length (tokens_of (text_of texts file.ino)) ≡ file.range.len) checkpoint.files order
-      renewed.by_address.moved renewed.counted in
-      let moved : live_of order ≡ live_of checkpoint.files =
-      sum_by-IsPermutation (λ (file : FileRec). file.range.len) checkpoint.files order renewed.by_address.moved in
-      let stored : length (postings_of layout.parts layout.memory) ≡ live_of checkpoint.files =
-      ap length (postings_split layout.parts layout.memory)
-      ∙ (ap (λ (ps : List Part). length (stored_in ps ++ layout.memory)) renewed.parts
-      ∙ (ap length renewed.memory ∙ (postings_counted order counted ∙ moved))) in
-      let parts : length layout.parts ≡ 0 = ap length renewed.parts in
-      subst (λ (v : ℕ). counts_in layout ≡ counts_of v checkpoint.files (parts_of v checkpoint)) (sym renewed.version)
-      (rw (files, live, stored, parts) refl))
       saved.index
 
   saved_sound : IsSound content (counts_in layout)
@@ -351,7 +358,7 @@ module _ (content : Content) (tree : FileSystem) (texts : Texts) (layout : Layou
           };
           texts = texts_sound layout.files checkpoint.files saved.files found;
           parts = its_parts;
-          counted = its_counts;
+          counted = its_counts content tree texts layout code saved;
         },
       )
 

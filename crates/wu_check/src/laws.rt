@@ -37,3 +37,12 @@ pub fn a_part_has_its_postings()
         (λ file. file.range.len ≡ length (tokens_of (text_held content file))) files
         → (part : Part) × HasPostings content files recorded part }
 {}
+
+/// A law: a sound store is an image of a tree, texts and a layout of these, and what is counted is
+/// what the layout has. They are what the checkpoint records and the blobs hold; without a root,
+/// they are empty.
+pub fn a_sound_store_is_an_image()
+    ensures { (content : Content) (counts : Checked) → IsSound content counts
+        → (tree : FileSystem) × (texts : Texts) × (layout : Layout)
+        × IsImage content tree texts layout × (counts ≡ counts_in layout) }
+{}
