@@ -38,7 +38,7 @@ pub fn a_part_has_its_postings()
         → (part : Part) × HasPostings content files recorded part }
 {}
 
-/// A law: a sound store is an image of a tree, texts and a layout of these, and what is counted is
+/// A law: a sound store is an image of a tree, of texts and of a layout, and what is counted is
 /// what the layout has. They are what the checkpoint records and the blobs hold; without a root,
 /// they are empty.
 pub fn a_sound_store_is_an_image()
