@@ -201,7 +201,7 @@ is_token-cons : (list : TermList) (lists : List TermList) (address : ℕ) (token
 is_token-cons list lists address token =
     token_if list.term (map (λ l. l.term) lists) token (has list.at address) (number_of lists address)
 
-has_contains : (address : ℕ) (xs : List ℕ) → has xs address ≡ true → Contains xs address
+pub has_contains : (address : ℕ) (xs : List ℕ) → has xs address ≡ true → Contains xs address
 has_contains address xs h = Contains-from_Has address xs (has_in address xs h)
 
 pub has_term : (lists : List TermList) (address : ℕ) (token : List ℕ) → is_token lists address token ≡ true
@@ -216,7 +216,7 @@ has_term (list ∷ lists) address token e =
       | false ↦ λ h t. inr (has_term lists address token t)
     ] refl cons
 
-some_address : (lists : List TermList) (address : ℕ) (token : List ℕ) → HaveTermAt lists address token
+pub some_address : (lists : List TermList) (address : ℕ) (token : List ℕ) → HaveTermAt lists address token
     → has (addresses_in lists) address ≡ true
 some_address [] address token h = absurd h
 some_address (list ∷ lists) address token h =

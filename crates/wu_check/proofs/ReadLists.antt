@@ -29,7 +29,7 @@ spelled_ascend low count first last (address ∷ later) code s a =
     let same : address ≡ first = same_Some address first a.begin in
     (omega arith, gaps_ascend address last later s.1 s.3 a.end)
 
-block_ascends : (low : ℕ) (bytes : List ℕ) (block : BlockEntry) (addresses : List ℕ) → HoldsBlock low bytes block addresses
+pub block_ascends : (low : ℕ) (bytes : List ℕ) (block : BlockEntry) (addresses : List ℕ) → HoldsBlock low bytes block addresses
     → AscendBetween block.first (block.last + 1) addresses
 block_ascends low bytes block addresses h = spelled_ascend low (length addresses) block.first block.last addresses _ h.spelled h.span
 

@@ -4,6 +4,8 @@
 pub mod Wrong
 -- which terms the lists of a part have at which addresses
 pub mod Terms
+-- the state of which a store holds an image
+pub mod Imaged
 -- blobs that are read whole, and lists that are read from a part's bytes
 pub mod Reading
 pub mod Indexing

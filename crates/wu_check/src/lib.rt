@@ -11,6 +11,7 @@ mod comparing;
 mod counting;
 mod directories;
 mod indexing;
+mod laws;
 mod numbering;
 mod places;
 mod saved;
@@ -22,3 +23,6 @@ pub use checking::{Checked, check};
 pub use comparing::{Compared, compare, compare_text};
 pub use directories::directory_in;
 pub use indexing::{PartIndex, addresses_of, index_part};
+pub use laws::{
+    a_part_has_its_postings, a_sound_store_is_an_image, a_store_has_one_finding, an_image_is_sound,
+};

@@ -1,6 +1,7 @@
 -- A check of the store: the line that tells what was found, and how it ends.
 use Rattle.std.specs.Prelude.{◌≡◌, ◌⊎◌, ℕ, List, [], ◌∷◌, ◌++◌, codes, decimal, Option, Some, None, IfSome}
 use Rattle.std.specs.Io.KnownBytes.{Appends}
+use Rattle.wu_base.specs.declared.reports.Stat.{Stat}
 use Rattle.wu_outside.specs.Content.{Content}
 use Rattle.wu_outside.specs.Crash.{Moments}
 use Rattle.wu_outside.specs.declared.traits.Fault.{Fault}
@@ -16,7 +17,11 @@ use Rattle.wumpus_run.specs.declared.statuses.Status.{Status}
 use Rattle.wumpus_run.specs.declared.statuses.Status.TheVariants.{Done, WriteFault, NoMemory, StoreFault}
 use Rattle.wumpus_run.specs.Session.{Moment}
 
--- the line that tells it
+-- nothing is wrong, and these numbers are counted
+abbrev pub sound_with : Stat → Checked
+sound_with stat = Sound stat.files stat.live stat.stored stat.parts
+
+-- the line that tells what was found
 abbrev pub check_line : Checked → List ℕ
 check_line (Sound files live stored parts) = codes "check\tok\t" ++ decimal files ++ 9 ∷ [] ++ decimal live ++ 9 ∷ [] ++ decimal stored
     ++ 9 ∷ [] ++ decimal parts ++ 10 ∷ []

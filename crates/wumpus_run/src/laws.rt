@@ -1,7 +1,9 @@
 //! Laws of states and of replies.
-ghost use Rattle.std.specs.Prelude.{◌≡◌, ℕ, List, ◌∷◌, map, Option};
+ghost use Rattle.std.specs.Prelude.{◌≡◌, ℕ, List, ◌∷◌, map, Option, Some};
 ghost use Rattle.std.specs.List.{All};
 ghost use Rattle.wu_outside.specs.Content.{Content};
+ghost use Rattle.wu_check.specs.Wrong.{IsChecked};
+ghost use Rattle.wu_check.specs.declared.checking.Checked.{Checked};
 ghost use Rattle.wu_ask.specs.Questions.{Question};
 ghost use Rattle.wu_script.specs.Commands.{Operation};
 ghost use Rattle.wu_script.specs.Said.{Asks, Operates, Reading, Said, said_of};
@@ -9,7 +11,9 @@ ghost use Rattle.wu_script.specs.Items.{items_of};
 ghost use Rattle.wu_query.specs.States.{State, IsState};
 ghost use Rattle.wu_query.specs.View.{view_of};
 ghost use Rattle.wu_engine.specs.Opening.{HoldsImage};
+ghost use Rattle.wu_engine.specs.Reports.{stat_of};
 ghost use Rattle.wu_engine.specs.States.{first_state};
+ghost use Rattle.wumpus_run.specs.Checks.{sound_with};
 ghost use Rattle.wumpus_run.specs.Replies.{Rules, last_state, met, reply_to};
 ghost use Rattle.wumpus_run.specs.Rebuilt.{AreQueriesOf, HasShortNumbers, IsRebuilt, IsToldTheSame};
 
@@ -70,4 +74,14 @@ pub fn numbers_stay_within_32_bits()
     ensures last { (flush_at : ℕ) (read : Reading) (s : State) (bytes : List ℕ)
         → HasShortNumbers s.tree
         → HasShortNumbers (last_state flush_at s (map (said_of read) (items_of bytes))).tree }
+{}
+
+/// A store that was saved is sound: where its content is an image of a state, a check finds nothing
+/// wrong in it, and counts what `stat` tells of that state. Nothing else is found.
+pub fn a_saved_store_is_sound()
+    ensures sound { (content : Content) (s : State) → HoldsImage (Some content) s
+        → IsChecked content (sound_with (stat_of s)) }
+    ensures alone { (content : Content) (s : State) (checked : Checked)
+        → HoldsImage (Some content) s → IsChecked content checked
+        → checked ≡ sound_with (stat_of s) }
 {}
