@@ -22,10 +22,9 @@ use Rattle.wu_parts.proofs.Putting.{has-none}
 use Rattle.wu_image.specs.declared.checkpoints.Checkpoint.{Checkpoint}
 use Rattle.wu_image.specs.declared.records.FileRec.{FileRec}
 use Rattle.wu_image.specs.declared.roots.Root.{Root}
-use Rattle.wu_image.specs.Images.{postings_from}
+use Rattle.wu_image.specs.Images.{postings_from, text_held}
 use Rattle.wu_image.specs.LayoutRules.{AreLayoutRules, named_blobs}
 use Rattle.wu_space.specs.Addresses.{Addresses}
-use Rattle.wu_query.specs.Finding.{text_held}
 use Rattle.wu_query.specs.Records.{Records}
 use Rattle.wu_engine.specs.declared.engines.Engine.{Engine}
 use Rattle.wu_engine.specs.Going.{Goes, HasSaved, IsSoundIn, IsSoundPart, IsSoundText, entries_of, entry_for, parts_kept}

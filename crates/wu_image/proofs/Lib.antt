@@ -9,6 +9,7 @@ pub mod NodeLemmas
 pub mod RootLemmas
 pub mod RuleLemmas
 pub mod RangesInOrder
+pub mod FileNumbers
 pub mod FileOrder
 pub mod DistinctBlobs
 pub mod UniqueItems
