@@ -4,6 +4,7 @@ ghost use Rattle.wu_outside.specs.Content.{ReadsFrom, GivesRoot};
 ghost use Rattle.wu_outside.specs.Crash.{LeftNow};
 ghost use Rattle.wu_outside.specs.Faults.{HasFaultCause};
 ghost use Rattle.wu_outside.specs.Logs.{LoggedStore, moments_of, content_of, crash_log};
+ghost use Rattle.wu_outside.specs.Ranges.{asked_size};
 ghost use Rattle.wu_outside.specs.Schedule.{is_failing, after_call};
 ghost use Rattle.wu_outside.specs.declared.logs.Entry.TheVariants.{HasPut, HasRemoved, HasSetRoot, HasSynced};
 ghost use Rattle.wu_outside.specs.declared.traits.Fault.TheVariants.{Failed as CallFailed};
@@ -71,7 +72,7 @@ impl MemStore {
         })
     }
 
-    /// The ranges read so far, in order.
+    /// The ranges read so far, and one without bytes for each size that was asked, in order.
     pub fn reads(&self) -> &[ReadRange]
         ensures { result.now ≡ self.now.ranges }
     {
@@ -105,13 +106,16 @@ impl Store for MemStore {
     fn size(&mut self, blob: u64) -> Result<Option<u64>, Fault>
         ensures size { IfOk result (λ size. size ≡ option_map length ((content_of self.old.log).blobs blob)) }
         ensures log { self.new.log ≡ self.old.log }
-        ensures ranges { self.new.ranges ≡ self.old.ranges }
+        ensures noted { OnOk result (self.new.ranges ≡ self.old.ranges ++ asked_size blob ∷ []) }
+        ensures refused { OnErr result (self.new.ranges ≡ self.old.ranges) }
         ensures failed { is_failing self.old.schedule ≡ true → result ≡ Err CallFailed }
         ensures counted { self.new.schedule ≡ after_call self.old.schedule }
         ensures cause { HasFaultCause self.old.schedule.faults self.new.schedule.faults result }
     {
         self.schedule.pass()?;
-        Ok(size_of_blob(find_blob(self.log.as_slice(), blob)))
+        let size = size_of_blob(find_blob(self.log.as_slice(), blob));
+        self.ranges.push(ReadRange::of_size(blob))?;
+        Ok(size)
     }
 
     fn read(&mut self, blob: u64, at: u64, buf: &mut [u8]) -> Result<Option<usize>, Fault>

@@ -39,7 +39,7 @@ impl PlainStore {
         }
     }
 
-    /// The ranges read so far, in order.
+    /// The ranges read so far, and one without bytes for each size that was asked, in order.
     pub fn reads(&self) -> &[ReadRange]
         ensures { result.now ≡ self.now.ranges }
     {
@@ -57,7 +57,9 @@ impl Store for PlainStore {
     ghost faults = { λ _. 0 };
 
     fn size(&mut self, blob: u64) -> Result<Option<u64>, Fault> {
-        Ok(size_of_blob(self.blobs.get(&blob)))
+        let size = size_of_blob(self.blobs.get(&blob));
+        self.ranges.push(ReadRange::of_size(blob))?;
+        Ok(size)
     }
 
     fn read(&mut self, blob: u64, at: u64, buf: &mut [u8]) -> Result<Option<usize>, Fault> {

@@ -1,7 +1,9 @@
 //! The range of one read of a blob.
+ghost use Rattle.std.specs.Prelude.{◌≡◌};
+ghost use Rattle.wu_outside.specs.Ranges.{asked_size};
 
 /// A range of a blob that was read: its place and the length of the buffer, in bytes. It may go past
-/// the blob's end.
+/// the blob's end. A size that was asked is noted as a range without bytes.
 #[derive(Clone, Copy, Debug, PartialEq, Eq)]
 pub struct ReadRange {
     /// The blob's number.
@@ -10,4 +12,17 @@ pub struct ReadRange {
     pub at: u64,
     /// The length of the buffer.
     pub len: u64,
+}
+
+impl ReadRange {
+    /// The range without bytes that is noted where the size of a blob is asked.
+    pub(crate) fn of_size(blob: u64) -> ReadRange
+        ensures { result ≡ asked_size blob }
+    {
+        ReadRange {
+            blob,
+            at: 0,
+            len: 0,
+        }
+    }
 }

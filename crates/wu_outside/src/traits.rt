@@ -5,7 +5,7 @@ ghost use Rattle.wu_outside.specs.Content.{Content, with_blob, with_root, ReadsF
 ghost use Rattle.wu_outside.specs.Crash.{Moments, Put, Remove, SetRoot, Tries, try_change, settle, AreAlike};
 ghost use Rattle.wu_outside.specs.Ends.{GivesEnd};
 ghost use Rattle.wu_outside.specs.Faults.{HasCause, HasFaultCause, HasWriteCause};
-ghost use Rattle.wu_outside.specs.Ranges.{AddsRange};
+ghost use Rattle.wu_outside.specs.Ranges.{AddsRange, asked_size};
 ghost use Rattle.wu_outside.specs.declared.ranges.ReadRange.{ReadRange};
 ghost use Rattle.wu_outside.specs.declared.traits.Fault.TheVariants.{NoMemory as WantsMemory};
 
@@ -138,7 +138,8 @@ pub trait Store {
     /// What it holds, where the store tells it.
     ghost holds: { Self → Option Content };
 
-    /// The ranges read so far, in order, where the store tells them.
+    /// The ranges read so far, and the blobs of which the size was asked, each as a range without
+    /// bytes at place 0, in order, where the store tells them.
     ghost reads: { Self → Option (List ReadRange) };
 
     /// What a crash may leave now, and might have left at each moment since the store was made,
@@ -148,12 +149,13 @@ pub trait Store {
     /// How many faults there were. The count stands still at 2^64 - 1.
     ghost faults: { Self → ℕ };
 
-    /// The size of a blob in bytes. None is answered exactly where the blob is absent. `Failed`
-    /// comes only where the count of faults rose; on every other answer the count is as it was.
+    /// The size of a blob in bytes. None is answered exactly where the blob is absent. A size that
+    /// was asked is noted as a range without bytes at place 0. `Failed` comes only where the count of
+    /// faults rose; on every other answer the count is as it was.
     fn size(&mut self, blob: u64) -> Result<Option<u64>, Fault>
         ensures size { IfOk result (λ size. IfSome (holds self.old) (λ content. size ≡ option_map length (content.blobs blob))) }
         ensures same { holds self.new ≡ holds self.old }
-        ensures unread { reads self.new ≡ reads self.old }
+        ensures noted { AddsRange (reads self.old) (reads self.new) (asked_size blob) result }
         ensures still { moments self.new ≡ moments self.old }
         ensures cause { HasFaultCause (faults self.old) (faults self.new) result };
 
