@@ -3,6 +3,7 @@ use Rattle.std.proofs.Common.{◌≡◌, ℕ, List, [], ◌∷◌, ◌++◌, len
 use Rattle.std.specs.Prelude.{Option, Some, None, IfErr, IfNone, IfSome, IsErrAnd, OnErr, OnOk, Result, Ok, Err, option_map}
 use Rattle.std.specs.List.{AllByRecursion}
 use Rattle.wu_outside.specs.Content.{Content}
+use Rattle.wu_outside.specs.Ranges.{asked_size}
 use Rattle.wu_outside.specs.declared.ranges.ReadRange.{ReadRange}
 use Rattle.wu_lists.proofs.Asking.{ranges-none}
 use Rattle.wu_image.specs.declared.checkpoints.Checkpoint.{Checkpoint}
@@ -14,9 +15,9 @@ use Rattle.wu_query.specs.States.{State}
 use Rattle.wu_query.proofs.PermittedBlocks.{reads_joined}
 use Rattle.wu_engine.specs.declared.faults.BeginFault.{BeginFault}
 use Rattle.wu_engine.specs.declared.faults.BeginFault.TheVariants as faults
-use Rattle.wu_engine.specs.Opened.{FindsRoot, IsFoundIn, MatchesRoot, ReadsCheckpoint}
+use Rattle.wu_engine.specs.Opened.{AsksCheckpoint, FindsRoot, IsFoundIn, MatchesRoot, ReadsCheckpoint}
 use Rattle.wu_engine.specs.Opening.{HasCheckpoint, HasOpenRoot, HoldsImage, IsBeginCause, IsDamagedAtOpening, IsIndexRange, IsOpen}
-use Rattle.wu_engine.specs.Opening.{IsOpeningRange, IsSpentWhere, Opens, OpensIndex, ReadsAtOpening, checkpoint_range}
+use Rattle.wu_engine.specs.Opening.{IsOpeningRange, IsSpentWhere, Opens, OpensIndex, ReadsAtOpening, checkpoint_range, checkpoint_ranges}
 use Rattle.wu_engine.specs.Reindexed.{ReadsIndex}
 use Rattle.wu_engine.proofs.ImageStates.{image_undamaged}
 
@@ -85,17 +86,34 @@ opens_nothing holds before after same none = ([], nothing_read holds none, same 
     nothing_read (Some content) h = inl (h, refl)
 
 module _ (root : Root) where
-  -- only the checkpoint, or nothing
+  both_read : (before after : Option (List ReadRange)) → ReadsCheckpoint root before after
+      → after ≡ option_map (λ earlier. earlier ++ checkpoint_ranges root) before
+  both_read before after read = read ∙ reads_joined before (asked_size root.checkpoint ∷ []) (checkpoint_range root ∷ [])
+
+  size_opening : (content : Content) → HasOpenRoot content root → IsOpeningRange content (asked_size root.checkpoint)
+  size_opening content roomy = (root, roomy, inl (inl refl))
+
+  checkpoint_opening : (content : Content) → HasOpenRoot content root → IsOpeningRange content (checkpoint_range root)
+  checkpoint_opening content roomy = (root, roomy, inl (inr (inl refl)))
+
+  -- only the checkpoint and its size, or only its size, or nothing
   pub reads_checkpoint : (holds : Option Content) (before after : Option (List ReadRange))
-      → IfSome holds (λ content. HasOpenRoot content root) → (after ≡ before) ⊎ ReadsCheckpoint root before after
-      → ReadsAtOpening holds before after
+      → IfSome holds (λ content. HasOpenRoot content root)
+      → (after ≡ before) ⊎ (AsksCheckpoint root before after ⊎ ReadsCheckpoint root before after) → ReadsAtOpening holds before after
   reads_checkpoint holds before after roomy (inl same) = reads_nothing holds before after same
-  reads_checkpoint holds before after roomy (inr read) = (checkpoint_range root ∷ [], one_read holds roomy, read)
+  reads_checkpoint holds before after roomy (inr (inl asked)) = (asked_size root.checkpoint ∷ [], one_asked holds roomy, asked)
+    where
+      one_asked : (held : Option Content) → IfSome held (λ content. HasOpenRoot content root)
+          → IfSome held (λ content. AllByRecursion (IsOpeningRange content) (asked_size root.checkpoint ∷ []))
+      one_asked None h = tt
+      one_asked (Some content) h = (size_opening content h, tt)
+  reads_checkpoint holds before after roomy (inr (inr read)) =
+      (checkpoint_ranges root, one_read holds roomy, both_read before after read)
     where
       one_read : (held : Option Content) → IfSome held (λ content. HasOpenRoot content root)
-          → IfSome held (λ content. AllByRecursion (IsOpeningRange content) (checkpoint_range root ∷ []))
+          → IfSome held (λ content. AllByRecursion (IsOpeningRange content) (checkpoint_ranges root))
       one_read None h = tt
-      one_read (Some content) h = ((root, h, inl refl), tt)
+      one_read (Some content) h = (size_opening content h, checkpoint_opening content h, tt)
 
   module _ (checkpoint : Checkpoint) where
     index_opening : (content : Content) → HasOpenRoot content root → HasCheckpoint content root checkpoint → (read : List ReadRange)
@@ -110,32 +128,37 @@ module _ (root : Root) where
         → ReadsCheckpoint root before between → ReadsIndex holds root.version checkpoint between after
         → ReadsAtOpening holds before after
     reads_index holds before between after roomy has first later = (
-      checkpoint_range root ∷ later.0,
+      checkpoint_ranges root ++ later.0,
       all_opening holds roomy has later.1,
-      later.2 ∙ (ap (option_map (λ earlier. earlier ++ later.0)) first ∙ reads_joined before (checkpoint_range root ∷ []) later.0),
+      later.2
+          ∙ (ap (option_map (λ earlier. earlier ++ later.0)) (both_read before between first)
+          ∙ reads_joined before (checkpoint_ranges root) later.0),
     )
       where
         all_opening : (held : Option Content) → IfSome held (λ content. HasOpenRoot content root)
             → IfSome held (λ content. HasCheckpoint content root checkpoint)
             → IfSome held (λ content. AllByRecursion (IsIndexRange content root.version checkpoint) later.0)
-            → IfSome held (λ content. AllByRecursion (IsOpeningRange content) (checkpoint_range root ∷ later.0))
+            → IfSome held (λ content. AllByRecursion (IsOpeningRange content) (checkpoint_ranges root ++ later.0))
         all_opening None o h a = tt
-        all_opening (Some content) o h a = ((root, o, inl refl), index_opening content o h later.0 a)
+        all_opening (Some content) o h a =
+            (size_opening content o, checkpoint_opening content o, index_opening content o h later.0 a)
 
     pub opens_saved : (holds : Option Content) (before between after : Option (List ReadRange)) (read : List ReadRange)
         → IfSome holds (λ content. HasOpenRoot content root) → IfSome holds (λ content. HasCheckpoint content root checkpoint)
         → ReadsCheckpoint root before between → IfSome holds (λ content. OpensIndex content root.version checkpoint read)
         → after ≡ option_map (λ earlier. earlier ++ read) between → IsOpen holds before after
     opens_saved holds before between after read roomy has first opened later = (
-      checkpoint_range root ∷ read,
+      checkpoint_ranges root ++ read,
       all_open holds roomy has opened,
-      later ∙ (ap (option_map (λ earlier. earlier ++ read)) first ∙ reads_joined before (checkpoint_range root ∷ []) read),
+      later
+          ∙ (ap (option_map (λ earlier. earlier ++ read)) (both_read before between first)
+          ∙ reads_joined before (checkpoint_ranges root) read),
     )
       where
         all_open : (held : Option Content) → IfSome held (λ content. HasOpenRoot content root)
             → IfSome held (λ content. HasCheckpoint content root checkpoint)
             → IfSome held (λ content. OpensIndex content root.version checkpoint read)
-            → IfSome held (λ content. Opens content (checkpoint_range root ∷ read))
+            → IfSome held (λ content. Opens content (checkpoint_ranges root ++ read))
         all_open None o h a = tt
         all_open (Some content) o h a = inr (record {
           root = root;

@@ -17,6 +17,7 @@ use Rattle.wu_outside.specs.Content.{Content}
 use Rattle.wu_outside.specs.declared.ranges.ReadRange.{ReadRange}
 use Rattle.wu_layout.specs.Invariants.{SomeOf}
 use Rattle.wu_layout.specs.Postings.{Posting, placed_from}
+use Rattle.wu_layout.proofs.KeptLemmas.{SomeOf-left}
 use Rattle.wu_token.specs.Tokens.{tokens_of}
 use Rattle.wu_lists.proofs.Asking.{ranges-none}
 use Rattle.wu_parts.specs.Memory.{Gains, HasPostings, Memory}
@@ -31,7 +32,7 @@ use Rattle.wu_image.proofs.RangesInOrder.{files_in_order}
 use Rattle.wu_query.specs.Causes.{IsBrokenIn}
 use Rattle.wu_query.specs.Finding.{AreFirstOf, IsCause}
 use Rattle.wu_query.specs.Permitted.{ReadsOnly, ReadsSuch}
-use Rattle.wu_query.specs.Reads.{whole_text}
+use Rattle.wu_query.specs.Reads.{IsOfText, whole_text}
 use Rattle.wu_query.proofs.PermittedBlocks.{reads_joined}
 use Rattle.wu_query.proofs.ReadCauses.{cause_after, cause_behind}
 use Rattle.wu_engine.specs.Reindexed.{IsReindexable}
@@ -42,33 +43,25 @@ use Rattle.wu_engine.proofs.ReindexedStates.{texts_filled}
 
 -- ---- one text
 
--- a text that is read whole, or not at all
-each_of_one : (text : ReadRange) (read left : List ReadRange) → read ++ left ≡ text ∷ []
-    → AllByRecursion (λ range. text ∷ [] ≡ range ∷ []) read
-each_of_one text [] left e = tt
-each_of_one text (range ∷ []) left e = (let same : range ≡ text = cc in ap (λ (r : ReadRange). r ∷ []) (sym same), tt)
-each_of_one text (range ∷ more ∷ read) left e = absurd cc
+-- each of these ranges is one of all
+each_among : (all read : List ReadRange) → ((range : ReadRange) → SomeOf (λ one. one ≡ range) read → SomeOf (λ one. one ≡ range) all)
+    → AllByRecursion (λ range. SomeOf (λ one. one ≡ range) all) read
+each_among all [] among = tt
+each_among all (range ∷ read) among = (among range (inl refl), each_among all read (λ other is. among other (inr is)))
 
-each_of_none : (read left : List ReadRange) → read ++ left ≡ [] → AllByRecursion (λ range. [] ≡ range ∷ []) read
-each_of_none [] left e = tt
-each_of_none (range ∷ read) left e = absurd cc
-
+-- the first ones that are read of a text are of it
 each_first : (blob len : ℕ) (read left : List ReadRange) → read ++ left ≡ whole_text blob len
-    → AllByRecursion (λ range. whole_text blob len ≡ range ∷ []) read
-each_first blob len read left =
-    let text : ReadRange = record { blob = blob; at = 0; len = len } in
-    elim (blob == 0) as
-    (λ b. read ++ left ≡ cond b [] (text ∷ []) → AllByRecursion (λ range. cond b [] (text ∷ []) ≡ range ∷ []) read) [
-      | true ↦ each_of_none read left
-      | false ↦ each_of_one text read left
-    ]
+    → AllByRecursion (IsOfText blob len) read
+each_first blob len read left e =
+    each_among (whole_text blob len) read
+    (λ range is. subst (SomeOf (λ one. one ≡ range)) e (SomeOf-left (λ (one : ReadRange). one ≡ range) read left is))
 
 pub first_only : (blob len : ℕ) (before after : Option (List ReadRange)) → ReadsSuch (AreFirstOf (whole_text blob len)) before after
-    → ReadsOnly (λ range. whole_text blob len ≡ range ∷ []) before after
+    → ReadsOnly (IsOfText blob len) before after
 first_only blob len before after reads = (reads.0, each_first blob len reads.0 reads.1.0 reads.1.1, reads.2)
 
 pub whole_only : (blob len : ℕ) (before after : Option (List ReadRange)) → after ≡ option_map (λ ranges. ranges ++ whole_text blob len) before
-    → ReadsOnly (λ range. whole_text blob len ≡ range ∷ []) before after
+    → ReadsOnly (IsOfText blob len) before after
 whole_only blob len before after reads =
     (whole_text blob len, each_first blob len (whole_text blob len) [] (append-nil (whole_text blob len)), reads)
 
@@ -105,7 +98,7 @@ abbrev pub no_file : FileRec
 no_file = record { ino = 0; len = 0; blob = 0; range = record { start = 0; len = 0 } }
 
 ranges_among : (before after : List FileRec) (file : FileRec) (read : List ReadRange)
-    → AllByRecursion (λ range. whole_text file.blob file.len ≡ range ∷ []) read
+    → AllByRecursion (IsOfText file.blob file.len) read
     → AllByRecursion (IsTextOfOne (before ++ file ∷ after)) read
 ranges_among before after file [] all = tt
 ranges_among before after file (range ∷ read) all = (among before, ranges_among before after file read all.1)
@@ -148,7 +141,7 @@ module _ (files : List FileRec) (i : ℕ) (within : i < length files) where
       ∙ ap (λ (rs : List ReadRange). option_map (λ (ranges : List ReadRange). ranges ++ rs) first) (sym one_more)
 
   pub turn-only : (first next last : Option (List ReadRange)) → ReadsOnly (IsTextOfOne files) first next
-      → ReadsOnly (λ range. whole_text its.blob its.len ≡ range ∷ []) next last → ReadsOnly (IsTextOfOne files) first last
+      → ReadsOnly (IsOfText its.blob its.len) next last → ReadsOnly (IsTextOfOne files) first last
   turn-only first next last before here = (
     before.0 ++ here.0,
     each-append (IsTextOfOne files) before.0 here.0 before.1
@@ -246,15 +239,15 @@ module _ (checkpoint : Checkpoint) (rules : IsCheckpoint checkpoint) (order : Li
   one_of_files range [] among is = absurd is
   one_of_files range (file ∷ some) among is =
       ⊎_elim
-      (λ (here : whole_text file.blob file.len ≡ range ∷ []). found checkpoint.files (among file (inl refl)) here)
+      (λ (here : IsOfText file.blob file.len range). found checkpoint.files (among file (inl refl)) here)
       (λ later. one_of_files range some (λ other has. among other (inr has)) later)
       is
     where
-      found : (files : List FileRec) → Has file files → whole_text file.blob file.len ≡ range ∷ [] → IsTextOfOne files range
+      found : (files : List FileRec) → Has file files → IsOfText file.blob file.len range → IsTextOfOne files range
       found [] has here = has
       found (first ∷ files) has here =
           ⊎_elim
-          (λ (same : first ≡ file). inl (subst (λ (f : FileRec). whole_text f.blob f.len ≡ range ∷ []) (sym same) here))
+          (λ (same : first ≡ file). inl (subst (λ (f : FileRec). IsOfText f.blob f.len range) (sym same) here))
           (λ later. inr (found files later here))
           has
 

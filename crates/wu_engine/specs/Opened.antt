@@ -2,6 +2,7 @@
 use Rattle.std.specs.Prelude.{◌≡◌, ◌≢◌, ⊤, ℕ, ◌<◌, List, [], ◌∷◌, ◌++◌, length, map, Option, None, Some, option_map}
 use Rattle.std.specs.List.{AllByRecursion}
 use Rattle.wu_outside.specs.Content.{Content}
+use Rattle.wu_outside.specs.Ranges.{asked_size}
 use Rattle.wu_outside.specs.declared.ranges.ReadRange.{ReadRange}
 use Rattle.wu_tree.specs.FileSystems.{root_alone}
 use Rattle.wu_space.specs.Addresses.{Ranges}
@@ -65,9 +66,14 @@ pub record MatchesRoot (root : Root) (checkpoint : Checkpoint) : Type 0 where
   pub of_no_text : AllByRecursion (λ file. file.blob ≢ root.checkpoint) checkpoint.files
   pub of_no_part : AllByRecursion (λ part. part.blob ≢ root.checkpoint) checkpoint.parts
 
--- the checkpoint was read, and nothing else
+-- the size of the checkpoint was asked, and nothing else
+abbrev pub AsksCheckpoint : Root → Option (List ReadRange) → Option (List ReadRange) → Type 0
+AsksCheckpoint root before after = after ≡ option_map (λ earlier. earlier ++ asked_size root.checkpoint ∷ []) before
+
+-- its size was asked and then it was read, and nothing else
 abbrev pub ReadsCheckpoint : Root → Option (List ReadRange) → Option (List ReadRange) → Type 0
-ReadsCheckpoint root before after = after ≡ option_map (λ earlier. earlier ++ checkpoint_range root ∷ []) before
+ReadsCheckpoint root before after =
+    after ≡ option_map (λ earlier. earlier ++ checkpoint_range root ∷ []) (option_map (λ earlier. earlier ++ asked_size root.checkpoint ∷ []) before)
 
 -- ---- the engine
 

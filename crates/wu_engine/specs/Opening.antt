@@ -8,6 +8,7 @@ use Rattle.wu_base.specs.declared.troubles.Trouble.TheVariants as troubles
 use Rattle.wu_base.specs.declared.limits.TheConstants.{SPENT_AT, BLOBS_SPENT_AT}
 use Rattle.wu_outside.specs.Content.{Content}
 use Rattle.wu_outside.specs.Faults.{Rose}
+use Rattle.wu_outside.specs.Ranges.{asked_size}
 use Rattle.wu_outside.specs.declared.traits.Fault.{Fault}
 use Rattle.wu_outside.specs.declared.traits.Fault.TheVariants as calls
 use Rattle.wu_outside.specs.declared.ranges.ReadRange.{ReadRange}
@@ -61,17 +62,21 @@ pub record HasCheckpoint (content : Content) (root : Root) (checkpoint : Checkpo
 abbrev pub checkpoint_range : Root → ReadRange
 checkpoint_range root = record { blob = root.checkpoint; at = 0; len = root.size }
 
--- of the index, in the second version, the range is a header's or a directory's of one of the parts; in the first, a text's
+-- before that its size is asked
+abbrev pub checkpoint_ranges : Root → List ReadRange
+checkpoint_ranges root = asked_size root.checkpoint ∷ checkpoint_range root ∷ []
+
+-- of the index, in the second version, the range is of the header, the size or the directory of one of the parts; in the first, of a text
 abbrev pub IsIndexRange : Content → ℕ → Checkpoint → ReadRange → Type 0
 IsIndexRange content version checkpoint range =
     (version ≡ 2) × SomeOf (IsFrontOf (Some content) range) checkpoint.parts
     ⊎ (version ≡ 1) × IsTextOfOne checkpoint.files range
 
--- the range is the checkpoint's, or one of its index
+-- the range is the checkpoint's or its size's, or one of its index
 abbrev pub IsOpeningRange : Content → ReadRange → Type 0
 IsOpeningRange content range =
     (root : Root) × HasOpenRoot content root
-    × ((range ≡ checkpoint_range root)
+    × (SomeOf (λ one. one ≡ range) (checkpoint_ranges root)
     ⊎ ((checkpoint : Checkpoint) × HasCheckpoint content root checkpoint × IsIndexRange content root.version checkpoint range))
 
 -- nothing else was read
@@ -108,7 +113,7 @@ pub record OpensSaved (content : Content) (read : List ReadRange) : Type 0 where
   pub saved : HasCheckpoint content root checkpoint
   pub later : List ReadRange
   pub index : OpensIndex content root.version checkpoint later
-  pub read_are : read ≡ checkpoint_range root ∷ later
+  pub read_are : read ≡ checkpoint_ranges root ++ later
 
 -- there is no root, and nothing is read; or what was saved is opened
 abbrev pub Opens : Content → List ReadRange → Type 0

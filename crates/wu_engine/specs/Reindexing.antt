@@ -1,4 +1,5 @@
--- How the texts of a store of the first version are read at its opening, to be indexed anew: each whole, in the order of their addresses.
+-- How the texts of a store of the first version are read at its opening, to be indexed anew: each whole, and then its size is asked, in the
+-- order of their addresses.
 use Rattle.std.specs.Prelude.{◌≡◌, ℕ, ◌<◌, List, [], ◌∷◌, ◌++◌, Option, Some, IfSome}
 use Rattle.std.specs.List.{AllByRecursion, flat_map}
 use Rattle.wu_outside.specs.Content.{Content}
@@ -7,15 +8,15 @@ use Rattle.wu_layout.specs.Invariants.{SomeOf}
 use Rattle.wu_image.specs.declared.records.FileRec.{FileRec}
 use Rattle.wu_image.specs.Images.{IsByAddress}
 use Rattle.wu_image.specs.Texts.{IsBrokenText}
-use Rattle.wu_query.specs.Reads.{HasWholeText, whole_text}
+use Rattle.wu_query.specs.Reads.{HasWholeText, IsOfText, whole_text}
 
 -- the texts of these files, in this order; the empty text is in no blob, and isn't read
 abbrev pub texts_whole : List FileRec → List ReadRange
 texts_whole files = flat_map (λ file. whole_text file.blob file.len) files
 
--- the range is all of the text of one of the files
+-- the range is one that is read of the text of one of the files
 abbrev pub IsTextOfOne : List FileRec → ReadRange → Type 0
-IsTextOfOne files range = SomeOf (λ file. whole_text file.blob file.len ≡ range ∷ []) files
+IsTextOfOne files range = SomeOf (λ file. IsOfText file.blob file.len range) files
 
 -- a text that isn't empty is there as it was recorded
 abbrev pub IsThere : Option Content → FileRec → Type 0

@@ -13,7 +13,7 @@ ghost use Rattle.wu_image.specs.Checkpoints.{IsCheckpoint};
 ghost use Rattle.wu_query.specs.States.{State};
 ghost use Rattle.wu_engine.specs.declared.faults.BeginFault.TheVariants.{Damaged as SavedIsDamaged};
 ghost use Rattle.wu_engine.specs.Going.{Goes};
-ghost use Rattle.wu_engine.specs.Opened.{FindsRoot, HasRoom, IsEngineFor, IsFirstEngine, IsFoundIn, IsGivenRoot, MatchesRoot, IsRootFault, IsSpentBy, ReadsCheckpoint, numbered, ranges_recorded};
+ghost use Rattle.wu_engine.specs.Opened.{AsksCheckpoint, FindsRoot, HasRoom, IsEngineFor, IsFirstEngine, IsFoundIn, IsGivenRoot, MatchesRoot, IsRootFault, IsSpentBy, ReadsCheckpoint, numbered, ranges_recorded};
 ghost use Rattle.wu_engine.specs.Opening.{HasCheckpoint, HasOpenRoot, HoldsImage, IsBeginCause, IsOpen, IsSpentWhere, ReadsAtOpening, spent_of};
 ghost use Rattle.wu_engine.specs.Stands.{Stands};
 
@@ -188,7 +188,8 @@ fn open_checkpoint<D: Store>(
     ensures own { IfOk result (MatchesRoot root.now) }
     ensures store { OnlyReads D.Store store.old store.new result }
     ensures read { OnOk result (ReadsCheckpoint root.now (D.reads store.old) (D.reads store.new)) }
-    ensures reads { (D.reads store.new ≡ D.reads store.old) ⊎ ReadsCheckpoint root.now (D.reads store.old) (D.reads store.new) }
+    ensures reads { (D.reads store.new ≡ D.reads store.old) ⊎ (AsksCheckpoint root.now (D.reads store.old) (D.reads store.new)
+        ⊎ ReadsCheckpoint root.now (D.reads store.old) (D.reads store.new)) }
     ensures cause { IfErr result (IsBeginCause (D.holds store.old) (D.faults store.old) (D.faults store.new)) }
 {
     let found = checkpoint_in(alloc, store, root)?;
@@ -221,7 +222,8 @@ fn checkpoint_in<D: Store>(
     ensures rules { IfOk result (λ found. IfSome found IsCheckpoint) }
     ensures store { OnlyReads D.Store store.old store.new result }
     ensures read { IfOk result (λ found. OnSome found (ReadsCheckpoint root.now (D.reads store.old) (D.reads store.new))) }
-    ensures reads { (D.reads store.new ≡ D.reads store.old) ⊎ ReadsCheckpoint root.now (D.reads store.old) (D.reads store.new) }
+    ensures reads { (D.reads store.new ≡ D.reads store.old) ⊎ (AsksCheckpoint root.now (D.reads store.old) (D.reads store.new)
+        ⊎ ReadsCheckpoint root.now (D.reads store.old) (D.reads store.new)) }
     ensures cause { HasFaultCause (D.faults store.old) (D.faults store.new) result }
 {
     match named_blob(alloc, store, root)? {
@@ -230,7 +232,8 @@ fn checkpoint_in<D: Store>(
     }
 }
 
-/// The blob that the root names, whole, in one read. None where it is absent or has another size than the root says.
+/// The blob that the root names, whole, in one read, before which its size is asked. None where it is absent or
+/// has another size than the root says.
 fn named_blob<D: Store>(alloc: Global, store: &mut D, root: &Root) -> Result<Option<Vec<u8>>, Fault>
     ensures bytes { IfOk result (λ found. IfSome found (λ bytes. IfSome (D.holds store.old)
         (λ content. content.blobs root.now.checkpoint ≡ Some bytes.items))) }
@@ -239,7 +242,8 @@ fn named_blob<D: Store>(alloc: Global, store: &mut D, root: &Root) -> Result<Opt
         (λ content. IsFoundIn root.now.size (content.blobs root.now.checkpoint) None))) }
     ensures store { OnlyReads D.Store store.old store.new result }
     ensures read { IfOk result (λ found. OnSome found (ReadsCheckpoint root.now (D.reads store.old) (D.reads store.new))) }
-    ensures reads { (D.reads store.new ≡ D.reads store.old) ⊎ ReadsCheckpoint root.now (D.reads store.old) (D.reads store.new) }
+    ensures reads { (D.reads store.new ≡ D.reads store.old) ⊎ (AsksCheckpoint root.now (D.reads store.old) (D.reads store.new)
+        ⊎ ReadsCheckpoint root.now (D.reads store.old) (D.reads store.new)) }
     ensures cause { HasFaultCause (D.faults store.old) (D.faults store.new) result }
 {
     match store.size(root.checkpoint)? {

@@ -13,7 +13,7 @@ ghost use Rattle.wu_image.specs.Images.{IsByAddress, postings_from, text_held};
 ghost use Rattle.wu_image.specs.Roots.{IsVersion};
 ghost use Rattle.wu_query.specs.Finding.{IsCause};
 ghost use Rattle.wu_query.specs.Permitted.{ReadsOnly};
-ghost use Rattle.wu_query.specs.Reads.{whole_text};
+ghost use Rattle.wu_query.specs.Reads.{IsOfText, whole_text};
 ghost use Rattle.wu_query.specs.Causes.{IsBrokenIn};
 ghost use Rattle.wu_engine.specs.Reindexed.{IsIndexCause, IsIndexOpened, IsReindexable, IsReindexed, ReadsIndex};
 ghost use Rattle.wu_engine.specs.Reindexing.{IsFirstBrokenText, IsFirstOfBroken, IsTextOfOne, IsThere, texts_whole};
@@ -163,7 +163,7 @@ fn index_text<D: Store>(
     ensures store { OnlyReads D.Store store.old store.new result }
     ensures reads { OnOk result (D.reads store.new
         ≡ option_map (λ ranges. ranges ++ whole_text file.now.blob file.now.len) (D.reads store.old)) }
-    ensures only { ReadsOnly (λ range. whole_text file.now.blob file.now.len ≡ range ∷ []) (D.reads store.old) (D.reads store.new) }
+    ensures only { ReadsOnly (IsOfText file.now.blob file.now.len) (D.reads store.old) (D.reads store.new) }
     ensures cause { IfErr result (IsCause (IsBrokenIn (D.holds store.old) file.now)
         (D.faults store.old) (D.faults store.new) (D.reads store.old) (D.reads store.new)) }
 {

@@ -10,6 +10,7 @@ use Rattle.wu_base.specs.declared.troubles.Trouble.TheVariants.{Damaged, NoMemor
 use Rattle.wu_base.proofs.EachLemmas.{each-append, each-map}
 use Rattle.wu_outside.specs.Content.{Content}
 use Rattle.wu_outside.specs.Faults.{Rose}
+use Rattle.wu_outside.specs.Ranges.{asked_size}
 use Rattle.wu_outside.specs.declared.ranges.ReadRange.{ReadRange}
 use Rattle.wu_layout.specs.Invariants.{SomeOf}
 use Rattle.wu_layout.proofs.EntryLemmas.{IfSome-map, IfSome-map2}
@@ -164,11 +165,19 @@ pub header-was-read : (blob : ℕ) (later : List ReadRange) (before after : Opti
     → after ≡ adds (header_range blob ∷ later) before → WasHeaderRead before after blob
 header-was-read blob later before after e = (header_range blob ∷ later, inl refl, e)
 
+-- and then the size was asked
+pub header-and-size : (blob : ℕ) (before next after : Option (List ReadRange)) → next ≡ adds (header_range blob ∷ []) before
+    → after ≡ adds (asked_size blob ∷ []) next → after ≡ adds (header_range blob ∷ asked_size blob ∷ []) before
+header-and-size blob before next after e d =
+    d ∙ ap (adds (asked_size blob ∷ [])) e ∙ adds-append (header_range blob ∷ []) (asked_size blob ∷ []) before
+
 -- and then the directory, where that was
 pub header-then-read : {T E : Type 0} (blob : ℕ) (later : List ReadRange) (before next after : Option (List ReadRange)) (r : Result T E)
-    → next ≡ adds (header_range blob ∷ []) before → OnOk r (after ≡ adds later next) → OnOk r (WasHeaderRead before after blob)
+    → next ≡ adds (header_range blob ∷ asked_size blob ∷ []) before → OnOk r (after ≡ adds later next)
+    → OnOk r (WasHeaderRead before after blob)
 header-then-read blob later before next after (Ok x) e d =
-    header-was-read blob later before after (d ∙ ap (adds later) e ∙ adds-append (header_range blob ∷ []) later before)
+    header-was-read blob (asked_size blob ∷ later) before after
+    (d ∙ ap (adds later) e ∙ adds-append (header_range blob ∷ asked_size blob ∷ []) later before)
 header-then-read blob later before next after (Err x) e d = tt
 
 -- other parts were opened before
@@ -202,6 +211,12 @@ module _ (holds : Option Content) where
       → ReadsFronts holds (recorded ∷ []) before after
   fronts-header recorded before after e = fronts-one recorded (header_range recorded.blob) before after (inl refl) e
 
+  -- and then the size was asked
+  pub fronts-sized : (recorded : PartRec) (before after : Option (List ReadRange))
+      → after ≡ adds (header_range recorded.blob ∷ asked_size recorded.blob ∷ []) before → ReadsFronts holds (recorded ∷ []) before after
+  fronts-sized recorded before after e =
+      (header_range recorded.blob ∷ asked_size recorded.blob ∷ [], (inl (inl refl), inl (inr (inl refl)), tt), e)
+
   told_of : (n : ℕ) (o : Option (List ℕ)) → TellsLength n o → IfSome o (HasHeader n)
   told_of n None t = tt
   told_of n (Some bytes) t = t
@@ -211,12 +226,12 @@ module _ (holds : Option Content) where
       → after ≡ adds (directory_range recorded.blob n ∷ []) before → ReadsFronts holds (recorded ∷ []) before after
   fronts-directory recorded n before after header e =
       fronts-one recorded (directory_range recorded.blob n) before after
-      (inr (
+      (inr (inr (
         refl,
         header.room,
         IfSome-map (λ content. TellsLength n (content.blobs recorded.blob))
             (λ content. IfSome (content.blobs recorded.blob) (HasHeader n)) holds (λ content t. told_of n (content.blobs recorded.blob) t) header.told,
-      ))
+      )))
       e
 
   pub fronts-filled : (recorded : PartRec) (n count : ℕ) (before after : Option (List ReadRange)) → count ≡ n → IsHeaderOf holds recorded n

@@ -1,4 +1,5 @@
--- What is read of parts that are opened, and what is kept of them then. Of each the header and the directory are read, and no block.
+-- What is read of parts that are opened, and what is kept of them then. Of each the header and the directory are read, its blob's size is
+-- asked between these, and no block is read.
 use Rattle.std.specs.Prelude.{◌≡◌, ◌⊎◌, ⊤, ℕ, ◌+◌, ◌<◌, ◌≤◌, ◌^◌, List, [], ◌∷◌, length, take, Option, None, Some, IfSome}
 use Rattle.std.specs.List.{AllByRecursion}
 use Rattle.lru.specs.LruCache.{lru_cache}
@@ -7,6 +8,7 @@ use Rattle.wu_base.specs.declared.troubles.Trouble.{Trouble}
 use Rattle.wu_base.specs.declared.troubles.Trouble.TheVariants.{StoreFault, Damaged}
 use Rattle.wu_outside.specs.Content.{Content}
 use Rattle.wu_outside.specs.Faults.{Rose}
+use Rattle.wu_outside.specs.Ranges.{asked_size}
 use Rattle.wu_outside.specs.declared.ranges.ReadRange.{ReadRange}
 use Rattle.wu_layout.specs.Invariants.{NeverRise, SomeOf, flushes_for}
 use Rattle.wu_part.specs.declared.headers.TheConstants.{HEADER_LEN}
@@ -57,7 +59,7 @@ pub record IsOpened (holds : Option Content) (recorded : PartRec) (directory : P
 
 -- ---- what is read
 
--- the header, and then the directory, each in one read
+-- the header, and then, once the blob's size was asked, the directory, each in one read
 abbrev pub header_range : ℕ → ReadRange
 header_range blob = record { blob = blob; at = 0; len = HEADER_LEN }
 
@@ -71,15 +73,16 @@ AreOpened holds [] (directory ∷ directories) read = ⊥
 AreOpened holds (recorded ∷ records) [] read = ⊥
 AreOpened holds (recorded ∷ records) (directory ∷ directories) read =
     (directory_length : ℕ) × (later : List ReadRange) × IsOpened holds recorded directory directory_length
-    × (read ≡ header_range recorded.blob ∷ directory_range recorded.blob directory_length ∷ later)
+    × (read ≡ header_range recorded.blob ∷ asked_size recorded.blob ∷ directory_range recorded.blob directory_length ∷ later)
     × AreOpened holds records directories later
 
--- the range is a header, or as long as a header says that the directory is
+-- the range is a header, or the blob's size was asked, or it is as long as a header says that the directory is
 abbrev pub IsFrontOf : Option Content → ReadRange → PartRec → Type 0
 IsFrontOf holds range recorded =
     (range ≡ header_range recorded.blob)
+    ⊎ ((range ≡ asked_size recorded.blob)
     ⊎ ((range ≡ directory_range recorded.blob range.len) × (HEADER_LEN + range.len ≤ recorded.size)
-    × IfSome holds (λ content. IfSome (content.blobs recorded.blob) (HasHeader range.len)))
+    × IfSome holds (λ content. IfSome (content.blobs recorded.blob) (HasHeader range.len))))
 
 -- only fronts of parts were read
 abbrev pub ReadsFronts : Option Content → List PartRec → Option (List ReadRange) → Option (List ReadRange) → Type 0

@@ -3,6 +3,7 @@ use Rattle.std.specs.Prelude.{◌≡◌, ⊤, ℕ, ◌+◌, ◌<◌, ◌≤◌, 
 use Rattle.std.specs.List.{AllByRecursion}
 use Rattle.wu_base.specs.declared.addresses.PartRec.{PartRec}
 use Rattle.wu_outside.specs.Content.{Content}
+use Rattle.wu_outside.specs.Ranges.{asked_size}
 use Rattle.wu_outside.specs.declared.ranges.ReadRange.{ReadRange}
 use Rattle.wu_part.specs.declared.headers.TheConstants.{HEADER_LEN}
 use Rattle.wu_part.specs.Directories.{IsSpelled, PartDirectory}
@@ -52,11 +53,11 @@ pub record IsDirectoryIn (holds : Option Content) (recorded : PartRec) (director
   pub spelled : IsSpelled directory
   pub own : IfSome holds (λ content. HasDirectory directory directory_length (content.blobs recorded.blob))
 
--- what is read of a part that is opened
+-- what is read of a part that is opened, its size asked before the directory
 abbrev pub front_ranges : ℕ → ℕ → List ReadRange
-front_ranges blob directory_length = header_range blob ∷ directory_range blob directory_length ∷ []
+front_ranges blob directory_length = header_range blob ∷ asked_size blob ∷ directory_range blob directory_length ∷ []
 
--- header and directory were read, and the directory is the blob's
+-- header and directory were read, the size asked, and the directory is the blob's
 pub record IsDirectoryRead (holds : Option Content) (recorded : PartRec) (before after : Option (List ReadRange))
     (directory : PartDirectory) : Type 0 where
   pub directory_length : ℕ

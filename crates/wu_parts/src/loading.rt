@@ -2,7 +2,7 @@
 ghost use Rattle.std.specs.Prelude.{◌≡◌, ◌+◌, ◌<◌, ◌≤◌, ◌^◌, [], ◌∷◌, Some, IfErr, IfNone, IfOk, IfSome, MatchBool, OnOk, length};
 ghost use Rattle.wu_base.specs.declared.troubles.Trouble.TheVariants.{Damaged as DamagedBlob};
 ghost use Rattle.wu_outside.specs.Faults.{HasFaultCause};
-ghost use Rattle.wu_outside.specs.Ranges.{AddsRange};
+ghost use Rattle.wu_outside.specs.Ranges.{AddsRange, asked_size};
 ghost use Rattle.wu_part.specs.Parts.{IsRecorded};
 ghost use Rattle.wu_part.specs.declared.headers.TheConstants.{HEADER_LEN as header_length};
 ghost use Rattle.wu_job.specs.Steps.{adds};
@@ -123,7 +123,7 @@ fn has_size<D: Store>(store: &mut D, recorded: &PartRec) -> Result<bool, Fault>
     ensures size { IfOk result (λ sized. IfSome (D.holds store.old) (λ content. MatchBool sized
         (HasSize recorded.now.size (content.blobs recorded.now.blob)) (HasSize recorded.now.size (content.blobs recorded.now.blob) → ⊥))) }
     ensures holds { D.holds store.new ≡ D.holds store.old }
-    ensures unread { D.reads store.new ≡ D.reads store.old }
+    ensures noted { AddsRange (D.reads store.old) (D.reads store.new) (asked_size recorded.now.blob) result }
     ensures moments { D.moments store.new ≡ D.moments store.old }
     ensures cause { HasFaultCause (D.faults store.old) (D.faults store.new) result }
 {

@@ -26,6 +26,7 @@ use Rattle.wu_parts.specs.Contents.{Contents}
 use Rattle.wu_query.specs.Causes.{IsBlobOf, IsBrokenIn, IsDamagedAt, IsDamagedFor, IsDamagedIn, IsDamagedOf, IsDamagedOver, IsDamagedText}
 use Rattle.wu_query.specs.Finding.{IsBrokenShown, IsCause, extents_of, hits_at, hits_recorded, is_at_place, looked_through, text_at}
 use Rattle.wu_query.specs.Finding.{text_recorded, with_units}
+use Rattle.wu_query.specs.Reads.{text_ranges}
 use Rattle.wu_query.specs.Records.{Records, record_at}
 use Rattle.wu_query.specs.Searched.{TellsPostings}
 use Rattle.wu_query.specs.States.{State}
@@ -46,14 +47,14 @@ pub file_shown : (files : Records) (holds : Option Content) (region : Region) (l
     (left : ℕ) (extents : List Extent) → record_at files seen.ino ≡ Some file → extents ≡ take left (extents_of region lists file)
     → (blob : ℕ) → (0 < length extents) × IsBrokenIn holds file blob → IsBrokenShown files holds region lists left (seen ∷ []) blob
 file_shown files holds region lists seen file left extents there are blob broken =
-    let its : ReadRange = record { blob = file.blob; at = 0; len = file.len } in
+    let its : List ReadRange = text_ranges file.blob file.len in
     let count : length extents ≡ min left (hits_at files region lists seen) =
     ap length are ∙ length-take left (extents_of region lists file)
     ∙ sym (ap (λ (o : Option FileRec). min left (hits_recorded region lists o)) there) in
     let some : nat_lt 0 (min left (hits_at files region lists seen)) ≡ true =
     lt-ltb 0 (min left (hits_at files region lists seen)) (subst (λ (n : ℕ). 0 < n) count broken.0) in
     let stored : 0 < file.blob = subst (λ (n : ℕ). 0 < n) (sym broken.1.0) broken.1.1 in
-    let whole : text_at files seen ≡ its ∷ [] = ap text_recorded there ∙ ap (λ (b : Bool). cond b [] (its ∷ [])) (not_zero file.blob stored) in (
+    let whole : text_at files seen ≡ its = ap text_recorded there ∙ ap (λ (b : Bool). cond b [] its) (not_zero file.blob stored) in (
       subst (λ (b : Bool). IsBlobOf (cond b (text_at files seen) [] ++ []) blob) (sym some)
           (subst (λ (ts : List ReadRange). IsBlobOf (ts ++ []) blob) (sym whole) (inl broken.1.0)),
       inl (subst (λ (o : Option FileRec). IsSomeAnd o (λ f. IsBrokenIn holds f blob)) (sym there) broken.1),

@@ -29,7 +29,7 @@ use Rattle.wu_query.specs.Causes.{IsBlobOf, IsBrokenIn, IsDamagedOf, IsDamagedOv
 use Rattle.wu_query.specs.Exporting.{held_of, shown_at}
 use Rattle.wu_query.specs.Finding.{AreFirstOf, AreTextsOf, IsCause, KeepsTexts, text_at, text_recorded}
 use Rattle.wu_query.specs.Permitted.{AreReadForQuery, ReadsSuch}
-use Rattle.wu_query.specs.Reads.{IsTextOf, ReadsInTurn, text_at_entry, text_of_file, texts_read}
+use Rattle.wu_query.specs.Reads.{IsTextOf, ReadsInTurn, text_at_entry, text_ranges, text_of_file, texts_read}
 use Rattle.wu_query.specs.Records.{Records, record_at, record_of, records_of}
 use Rattle.wu_query.specs.Searched.{HoldsTexts, Indexes}
 use Rattle.wu_query.specs.States.{State, indexed, text_in}
@@ -229,8 +229,8 @@ module _ (frames : Frames) (contents : Contents) (files : Records) (holds : Opti
   broken_read None blob broken = absurd broken
   broken_read (Some file) blob broken =
       let stored : 0 < file.blob = subst (λ (n : ℕ). 0 < n) (sym broken.0) broken.1 in
-      let its : ReadRange = record { blob = file.blob; at = 0; len = file.len } in
-      subst (λ (b : Bool). IsBlobOf (cond b [] (its ∷ [])) blob) (sym (not_zero file.blob stored)) (inl broken.0)
+      let its : List ReadRange = text_ranges file.blob file.len in
+      subst (λ (b : Bool). IsBlobOf (cond b [] its) blob) (sym (not_zero file.blob stored)) (inl broken.0)
 
   damaged_read : (view : List Seen) (blob : ℕ) → IsDamagedOf view files holds blob → IsBlobOf (flat_map (text_at files) view) blob
   damaged_read [] blob damaged = damaged

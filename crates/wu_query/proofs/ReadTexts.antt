@@ -8,6 +8,7 @@ use Rattle.std.proofs.lemmas.List.{length-take}
 use Rattle.wu_base.specs.declared.troubles.Trouble.{Trouble}
 use Rattle.wu_base.specs.declared.troubles.Trouble.TheVariants.{Damaged}
 use Rattle.wu_outside.specs.Content.{Content, ReadsFrom}
+use Rattle.wu_outside.specs.Ranges.{asked_size}
 use Rattle.wu_outside.specs.declared.ranges.ReadRange.{ReadRange}
 use Rattle.wu_token.proofs.LengthLemmas.{length-tokens_of}
 use Rattle.wu_token.specs.Tokens.{file_end, line_tokens_of, lines_of, tokens_of}
@@ -15,7 +16,9 @@ use Rattle.wu_image.specs.declared.records.FileRec.{FileRec}
 use Rattle.wu_image.specs.Texts.{IsBrokenText}
 use Rattle.wu_query.specs.Causes.{IsBrokenIn, WasRead}
 use Rattle.wu_query.specs.Finding.{IsCause}
+use Rattle.wu_query.specs.Reads.{text_ranges}
 use Rattle.wu_query.specs.Soundness.{IsRecord}
+use Rattle.wu_query.proofs.PermittedBlocks.{reads_joined}
 
 -- as many as its record says, or more
 pub empty_long : (file : FileRec) → IsRecord (file.ino, file) → file.blob ≡ 0 → file.range.len ≤ length (tokens_of [])
@@ -40,15 +43,24 @@ empty_exact file is none some =
       length-tokens_of [],
     )
 
--- it was read whole, in one read
-abbrev pub IsReadWhole : FileRec → Option (List ReadRange) → Option (List ReadRange) → Type 0
-IsReadWhole file ranges ranges_now = ranges_now ≡ option_map (λ rs. rs ++ record { blob = file.blob; at = 0; len = file.len } ∷ []) ranges
+-- it was read whole, in one read, and then these ranges
+abbrev pub IsReadThen : FileRec → List ReadRange → Option (List ReadRange) → Option (List ReadRange) → Type 0
+IsReadThen file later ranges ranges_now = ranges_now ≡ option_map (λ rs. rs ++ record { blob = file.blob; at = 0; len = file.len } ∷ later) ranges
+
+-- and then its size was asked
+pub read_asked : (file : FileRec) (first next last : Option (List ReadRange)) → IsReadThen file [] first next
+    → last ≡ option_map (λ rs. rs ++ asked_size file.blob ∷ []) next
+    → last ≡ option_map (λ rs. rs ++ text_ranges file.blob file.len) first
+read_asked file first next last is_read asked =
+    asked ∙ ap (option_map (λ (rs : List ReadRange). rs ++ asked_size file.blob ∷ [])) is_read
+    ∙ reads_joined first (record { blob = file.blob; at = 0; len = file.len } ∷ []) (asked_size file.blob ∷ [])
 
 -- a broken text that was read, whose blob is told
-broken_cause : (holds : Option Content) (file : FileRec) (before now : ℕ) {ranges ranges_now : Option (List ReadRange)} (trouble : Trouble)
+broken_cause : (holds : Option Content) (file : FileRec) (later : List ReadRange) (before now : ℕ)
+    {ranges ranges_now : Option (List ReadRange)} (trouble : Trouble)
     → 0 < file.blob → IfSome holds (λ content. IsBrokenText file (content.blobs file.blob)) → trouble ≡ Damaged file.blob
-    → now ≡ before → IsReadWhole file ranges ranges_now → IsCause (IsBrokenIn holds file) before now ranges ranges_now trouble
-broken_cause holds file before now {ranges} {ranges_now} trouble some broken is same is_read = record {
+    → now ≡ before → IsReadThen file later ranges ranges_now → IsCause (IsBrokenIn holds file) before now ranges ranges_now trouble
+broken_cause holds file later before now {ranges} {ranges_now} trouble some broken is same is_read = record {
   kept = omega (arith, same);
   store_fault = λ e. absurd (cc (e, is));
   calm = λ _. same;
@@ -60,17 +72,17 @@ broken_cause holds file before now {ranges} {ranges_now} trouble some broken is 
   read = λ blob e.
       let told : Damaged file.blob ≡ Damaged blob = sym is ∙ e in
       let its : file.blob ≡ blob = cc in
-      subst (WasRead ranges ranges_now) its (record { blob = file.blob; at = 0; len = file.len } ∷ [], inl refl, is_read);
+      subst (WasRead ranges ranges_now) its (record { blob = file.blob; at = 0; len = file.len } ∷ later, inl refl, is_read);
 }
 
 -- not all of it was there to be read
 pub count_cause : (holds : Option Content) (file : FileRec) (count : Option ℕ) (buffer : List ℕ) (before now : ℕ)
     {ranges ranges_now : Option (List ReadRange)} (trouble : Trouble) → 0 < file.blob
     → IfSome holds (λ content. ReadsFrom (content.blobs file.blob) 0 count buffer) → length buffer ≡ file.len
-    → trouble ≡ Damaged file.blob → count ≢ Some file.len → now ≡ before → IsReadWhole file ranges ranges_now
+    → trouble ≡ Damaged file.blob → count ≢ Some file.len → now ≡ before → IsReadThen file [] ranges ranges_now
     → IsCause (IsBrokenIn holds file) before now ranges ranges_now trouble
 count_cause holds file count buffer before now trouble some told whole is other same is_read =
-    broken_cause holds file before now trouble some (broken holds told) is same is_read
+    broken_cause holds file [] before now trouble some (broken holds told) is same is_read
   where
     of_count : (held : Option (List ℕ)) → ReadsFrom held 0 count buffer → IsBrokenText file held
     of_count None e = tt
@@ -87,10 +99,10 @@ count_cause holds file count buffer before now trouble some told whole is other 
 -- it is of another size than recorded
 pub size_cause : (holds : Option Content) (file : FileRec) (size : Option ℕ) (before now : ℕ) {ranges ranges_now : Option (List ReadRange)}
     (trouble : Trouble) → 0 < file.blob → IfSome holds (λ content. size ≡ option_map length (content.blobs file.blob))
-    → (trouble ≡ Damaged file.blob) × (size ≢ Some file.len) → now ≡ before → IsReadWhole file ranges ranges_now
+    → (trouble ≡ Damaged file.blob) × (size ≢ Some file.len) → now ≡ before → IsReadThen file (asked_size file.blob ∷ []) ranges ranges_now
     → IsCause (IsBrokenIn holds file) before now ranges ranges_now trouble
 size_cause holds file size before now trouble some told other same is_read =
-    broken_cause holds file before now trouble some (broken holds told) other.0 same is_read
+    broken_cause holds file (asked_size file.blob ∷ []) before now trouble some (broken holds told) other.0 same is_read
   where
     of_size : (held : Option (List ℕ)) → size ≡ option_map length held → IsBrokenText file held
     of_size None e = tt
@@ -104,10 +116,10 @@ size_cause holds file size before now trouble some told other same is_read =
 -- it has another number of tokens
 pub tokens_cause : (holds : Option Content) (file : FileRec) (text : List ℕ) (before now : ℕ) {ranges ranges_now : Option (List ReadRange)}
     (trouble : Trouble) → 0 < file.blob → IfSome holds (λ content. content.blobs file.blob ≡ Some text)
-    → (trouble ≡ Damaged file.blob) × (length (tokens_of text) ≢ file.range.len) → now ≡ before → IsReadWhole file ranges ranges_now
-    → IsCause (IsBrokenIn holds file) before now ranges ranges_now trouble
+    → (trouble ≡ Damaged file.blob) × (length (tokens_of text) ≢ file.range.len) → now ≡ before
+    → IsReadThen file (asked_size file.blob ∷ []) ranges ranges_now → IsCause (IsBrokenIn holds file) before now ranges ranges_now trouble
 tokens_cause holds file text before now trouble some held other same is_read =
-    broken_cause holds file before now trouble some (broken holds held) other.0 same is_read
+    broken_cause holds file (asked_size file.blob ∷ []) before now trouble some (broken holds held) other.0 same is_read
   where
     broken : (told : Option Content) → IfSome told (λ content. content.blobs file.blob ≡ Some text)
         → IfSome told (λ content. IsBrokenText file (content.blobs file.blob))

@@ -13,11 +13,13 @@ use Rattle.wu_ask.specs.declared.Found.{Found}
 use Rattle.wu_gcl.specs.Regions.{Region}
 use Rattle.wu_image.specs.declared.records.FileRec.{FileRec}
 use Rattle.wu_outside.specs.Content.{Content}
+use Rattle.wu_outside.specs.Ranges.{asked_size}
 use Rattle.wu_outside.specs.declared.ranges.ReadRange.{ReadRange}
+use Rattle.wu_layout.specs.Invariants.{SomeOf}
 use Rattle.wu_view.specs.declared.Seen.{Seen}
 use Rattle.wu_query.specs.Finding.{extents_of, hits_at, hits_recorded, text_at, text_recorded}
 use Rattle.wu_query.specs.Records.{Records, record_at}
-use Rattle.wu_query.specs.Reads.{HasWholeText, IsTextOf, texts_shown}
+use Rattle.wu_query.specs.Reads.{HasWholeText, IsTextOf, text_ranges, texts_shown}
 use Rattle.wu_query.proofs.FirstLines.{IsEnough, at_place, none_to_show}
 
 positive : (n : ℕ) → (n == 0) ≡ false → 0 < n
@@ -36,15 +38,19 @@ whole_recorded holds (file ∷ files) ino whole =
     → AllByRecursion (IsTextOf holds (file ∷ files)) (text_recorded (cond b (Some file.1) (record_at files ino)))) [
       | true ↦ λ here. (elim (file.1.blob == 0) as
           (λ b. (file.1.blob == 0) ≡ b
-          → AllByRecursion (IsTextOf holds (file ∷ files)) (cond b [] (record { blob = file.1.blob; at = 0; len = file.1.len } ∷ []))) [
+          → AllByRecursion (IsTextOf holds (file ∷ files)) (cond b [] (text_ranges file.1.blob file.1.len))) [
             | true ↦ λ e. tt
-            | false ↦ λ e. (
-              inl (
-                ap (λ (b : Bool). cond b [] (record { blob = file.1.blob; at = 0; len = file.1.len } ∷ [])) e,
-                here (positive file.1.blob e),
-              ),
-              tt,
-            )
+            | false ↦ λ e.
+                let its : List ReadRange = text_ranges file.1.blob file.1.len in
+                let of_it : (range : ReadRange) → SomeOf (λ one. one ≡ range) its → IsTextOf holds (file ∷ files) range = λ range one.
+                inl (
+                  subst (λ (b : Bool). SomeOf (λ one. one ≡ range) (cond b [] its)) (sym e) one,
+                  here (positive file.1.blob e),
+                ) in (
+                  of_it (record { blob = file.1.blob; at = 0; len = file.1.len }) (inl refl),
+                  of_it (asked_size file.1.blob) (inr (inl refl)),
+                  tt,
+                )
           ]) refl
       | false ↦ λ there. weaken (text_recorded (record_at files ino)) (whole_recorded holds files ino there)
     ]) whole where

@@ -1,4 +1,5 @@
--- Which ranges of the store a query may read. A range is the whole of a block or of a text.
+-- Which ranges of the store a query may read. A range is the whole of a block or of a text, or has no byte and says that the size of a
+-- text's blob was asked: only of a text that was read just before.
 use Rattle.std.specs.Prelude.{◌≡◌, ℕ, List, ◌++◌, Option, filter_map, map, option_map}
 use Rattle.std.specs.List.{AllByRecursion}
 use Rattle.wu_base.specs.declared.addresses.PartRec.{PartRec}
@@ -60,8 +61,8 @@ IsBlockForQuery s uid question range =
     SomeOf (λ term. SomeOf (IsNeededBlockOf (live_ranges_of s uid) term range) s.layout.parts)
     (terms_asked (terms_indexed s) question)
 
--- For a query: such blocks, and then the texts of the files of which a line is shown, or which are exported, each once, or the first
--- ones of these.
+-- For a query: such blocks, and then the texts of the files of which a line is shown, or which are exported, each once and then its size,
+-- or the first ones of these. So no size is asked of another text, nor of a part.
 pub record AreReadForQuery (s : State) (uid : ℕ) (question : Question) (read : List ReadRange) : Type 0 where
   pub blocks : List ReadRange
   pub needed : AllByRecursion (IsBlockForQuery s uid question) blocks

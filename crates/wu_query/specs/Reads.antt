@@ -5,6 +5,7 @@ use Rattle.std.specs.Prelude.{if◌then◌else◌}
 use Rattle.std.specs.List.{AllByRecursion, flat_map}
 use Rattle.wu_outside.specs.declared.ranges.ReadRange.{ReadRange}
 use Rattle.wu_outside.specs.Content.{Content}
+use Rattle.wu_outside.specs.Ranges.{asked_size}
 use Rattle.wu_layout.specs.Invariants.{SomeOf}
 use Rattle.wu_layout.specs.Layouts.{FileEntry, entry_of}
 use Rattle.wu_image.specs.declared.records.FileRec.{FileRec}
@@ -26,9 +27,17 @@ use Rattle.wu_query.specs.View.{shown_of}
 use Rattle.wu_query.specs.Hits.{hits_in}
 use Rattle.wu_query.specs.Records.{Records}
 
--- a text of so many bytes, whole, in one read; the empty text, which is in no blob, takes none
+-- a text of so many bytes in that blob, whole, in one read, after which the blob's size is asked
+abbrev pub text_ranges : ℕ → ℕ → List ReadRange
+text_ranges blob len = record { blob = blob; at = 0; len = len } ∷ asked_size blob ∷ []
+
+-- the same of any text: the empty one, which is in no blob, takes no read, and no size is asked
 abbrev pub whole_text : ℕ → ℕ → List ReadRange
-whole_text blob len = if blob == 0 then [] else record { blob = blob; at = 0; len = len } ∷ []
+whole_text blob len = if blob == 0 then [] else text_ranges blob len
+
+-- the range is one that is read so: the whole text, or that of the size of its blob
+abbrev pub IsOfText : ℕ → ℕ → ReadRange → Type 0
+IsOfText blob len range = SomeOf (λ one. one ≡ range) (whole_text blob len)
 
 -- the text of a file with that entry
 abbrev pub text_at_entry : ℕ → Option FileEntry → List ReadRange
@@ -76,9 +85,9 @@ IsWholeText file (Some text) = (length text ≡ file.len) × (length (tokens_of 
 abbrev pub HasWholeText : Option Content → FileRec → Type 0
 HasWholeText holds file = IfSome holds (λ content. IsWholeText file (content.blobs file.blob))
 
--- the range is all of the recorded text of one of the files, which the store has as it was recorded
+-- the range is one that is read of the recorded text of one of the files, which the store has as it was recorded
 abbrev pub IsTextOf : Option Content → Records → ReadRange → Type 0
-IsTextOf holds files range = SomeOf (λ file. (whole_text file.1.blob file.1.len ≡ range ∷ []) × HasWholeText holds file.1) files
+IsTextOf holds files range = SomeOf (λ file. IsOfText file.1.blob file.1.len range × HasWholeText holds file.1) files
 
 -- texts of files, and none where the question has none shown
 pub record AreTexts (holds : Option Content) (files : Records) (question : Question) (texts : List ReadRange) : Type 0 where

@@ -8,7 +8,7 @@ ghost use Rattle.wu_image.specs.Images.{text_held};
 ghost use Rattle.wu_query.specs.Finding.{AreFirstOf, IsCause};
 ghost use Rattle.wu_query.specs.Causes.{IsBrokenIn};
 ghost use Rattle.wu_query.specs.Permitted.{ReadsSuch};
-ghost use Rattle.wu_query.specs.Reads.{HasWholeText, whole_text};
+ghost use Rattle.wu_query.specs.Reads.{HasWholeText, text_ranges, whole_text};
 ghost use Rattle.wu_query.specs.Soundness.{IsRecord};
 
 use std::alloc::Global;
@@ -17,9 +17,9 @@ use wu_image::FileRec;
 use wu_outside::Store;
 use wu_token::token_count;
 
-/// The text that is recorded there, read whole in one read; the empty text is not read. A text that the
-/// store doesn't have as it was recorded, in its length and in the number of its tokens, is answered by its
-/// blob once it was read.
+/// The text that is recorded there, read whole in one read, after which its size is asked; the empty text is
+/// not read. A text that the store doesn't have as it was recorded, in its length and in the number of its
+/// tokens, is answered by its blob once it was read.
 pub fn read_text<D: Store>(alloc: Global, store: &mut D, file: &FileRec) -> Result<Vec<u8>, Trouble>
     requires { IsRecord (file.now.ino, file.now) }
     ensures text { IfOk result (λ text. IfSome (D.holds store.old) (λ content. text.items ≡ text_held content file.now)) }
@@ -63,9 +63,8 @@ fn read_blob<D: Store>(alloc: Global, store: &mut D, file: &FileRec) -> Result<V
     ensures len { IfOk result (λ text. length text.items ≡ file.now.len) }
     ensures store { OnlyReads D.Store store.old store.new result }
     ensures reads { OnOk result (D.reads store.new
-        ≡ option_map (λ ranges. ranges ++ record { blob = file.now.blob; at = 0; len = file.now.len } ∷ []) (D.reads store.old)) }
-    ensures only { ReadsSuch (AreFirstOf (record { blob = file.now.blob; at = 0; len = file.now.len } ∷ []))
-        (D.reads store.old) (D.reads store.new) }
+        ≡ option_map (λ ranges. ranges ++ text_ranges file.now.blob file.now.len) (D.reads store.old)) }
+    ensures only { ReadsSuch (AreFirstOf (text_ranges file.now.blob file.now.len)) (D.reads store.old) (D.reads store.new) }
     ensures cause { IfErr result (IsCause (IsBrokenIn (D.holds store.old) file.now)
         (D.faults store.old) (D.faults store.new) (D.reads store.old) (D.reads store.new)) }
 {
