@@ -90,20 +90,25 @@ pub fn allows_by_groups(
     } else {
         match acl {
             Some(acl) => allows_by_list(uid, groups, node, acl, want),
-            None => grants(deciding_digit(groups, node), want),
+            None => allows_by_mode(groups, node, want),
         }
     }
 }
 
-/// The octal digit that decides for one who isn't the owner, where the node has no list.
-fn deciding_digit(groups: &[Gid], node: &Perm) -> u16
+/// What the mode grants one who isn't the owner, where the node has no list. Her groups are looked through
+/// only where the group's bits and those of others differ in what is wanted.
+fn allows_by_mode(groups: &[Gid], node: &Perm, want: Want) -> bool
     requires { IsStrictlySortedBy nat_cmp groups.now }
-    ensures { result ≡ cond (is_among_them node.now.gid groups.now) (group_digit node.now.mode) (other_digit node.now.mode) }
+    ensures { result ≡ is_granted (cond (is_among_them node.now.gid groups.now) (group_digit node.now.mode) (other_digit node.now.mode)) want }
 {
-    if is_among(&node.gid, groups) {
-        group_digit(node.mode)
+    let group = grants(group_digit(node.mode), want);
+    let others = grants(other_digit(node.mode), want);
+    if group == others {
+        others
+    } else if is_among(&node.gid, groups) {
+        group
     } else {
-        other_digit(node.mode)
+        others
     }
 }
 
