@@ -1,4 +1,5 @@
 pub mod AclItems
+pub mod BlobCounts
 pub mod HomeLemmas
 pub mod ImageLemmas
 pub mod ItemLemmas
