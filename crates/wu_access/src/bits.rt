@@ -5,6 +5,7 @@ ghost use Rattle.wu_access.specs.Access.{group_digit, is_granted, other_digit, o
 use crate::Want;
 
 /// The bits of others.
+#[inline(always)]
 pub(crate) fn other_digit(mode: u16) -> u16
     ensures { result ≡ other_digit mode }
 {
@@ -12,6 +13,7 @@ pub(crate) fn other_digit(mode: u16) -> u16
 }
 
 /// The bits of the group.
+#[inline(always)]
 pub(crate) fn group_digit(mode: u16) -> u16
     ensures { result ≡ group_digit mode }
 {
@@ -19,6 +21,7 @@ pub(crate) fn group_digit(mode: u16) -> u16
 }
 
 /// The bits of the owner.
+#[inline(always)]
 pub(crate) fn owner_digit(mode: u16) -> u16
     ensures { result ≡ owner_digit mode }
 {
@@ -26,6 +29,7 @@ pub(crate) fn owner_digit(mode: u16) -> u16
 }
 
 /// Whether an octal digit has the bit that is wanted.
+#[inline(always)]
 pub(crate) fn grants(digit: u16, want: Want) -> bool
     ensures { result ≡ is_granted digit want }
 {

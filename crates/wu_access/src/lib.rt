@@ -64,6 +64,7 @@ pub enum Want {
 ///
 /// The user's groups ascend without repeats, as each tree keeps them. Takes no memory, and time that grows with
 /// the number of the list's entries, for each group among them times the logarithm of that of her groups.
+#[inline(always)]
 pub fn allows(user: &UserRec, node: &Perm, acl: Option<&Acl>, want: Want) -> bool
     requires { IsStrictlySortedBy nat_cmp user.now.groups }
     ensures check { result ≡ is_allowed user.now node.now (option_copied acl.entry) want }
@@ -73,6 +74,7 @@ pub fn allows(user: &UserRec, node: &Perm, acl: Option<&Acl>, want: Want) -> boo
 }
 
 /// The same as [`allows`], of the user of that number who is in these groups, where they stand.
+#[inline(always)]
 pub fn allows_by_groups(
     uid: Uid,
     groups: &[Gid],
@@ -90,24 +92,31 @@ pub fn allows_by_groups(
     } else {
         match acl {
             Some(acl) => allows_by_list(uid, groups, node, acl, want),
-            None => grants(deciding_digit(groups, node), want),
+            None => allows_by_mode(groups, node, want),
         }
     }
 }
 
-/// The octal digit that decides for one who isn't the owner, where the node has no list.
-fn deciding_digit(groups: &[Gid], node: &Perm) -> u16
+/// What the mode grants one who isn't the owner, where the node has no list. Her groups are searched only where
+/// the group's bits and those of others differ in it.
+#[inline(always)]
+fn allows_by_mode(groups: &[Gid], node: &Perm, want: Want) -> bool
     requires { IsStrictlySortedBy nat_cmp groups.now }
-    ensures { result ≡ cond (is_among_them node.now.gid groups.now) (group_digit node.now.mode) (other_digit node.now.mode) }
+    ensures { result ≡ cond (is_among_them node.now.gid groups.now) (is_granted (group_digit node.now.mode) want) (is_granted (other_digit node.now.mode) want) }
 {
-    if is_among(&node.gid, groups) {
-        group_digit(node.mode)
+    let group = grants(group_digit(node.mode), want);
+    let other = grants(other_digit(node.mode), want);
+    if group == other || groups.is_empty() {
+        other
+    } else if is_among(&node.gid, groups) {
+        group
     } else {
-        other_digit(node.mode)
+        other
     }
 }
 
 /// What the list grants one who isn't the owner.
+#[inline(never)]
 fn allows_by_list(uid: Uid, groups: &[Gid], node: &Perm, acl: &Acl, want: Want) -> bool
     requires { IsStrictlySortedBy nat_cmp groups.now }
     ensures { result ≡ decided (acl_rules (record { uid = uid; groups = groups.now }) node.now acl.now want) }

@@ -32,9 +32,10 @@ use Rattle.wu_image.specs.declared.records.FileRec.{FileRec}
 use Rattle.wu_image.specs.Images.{HasParts, HasSaved, HoldsPart, HoldsText, IsImage, IsRenewed, IsSaved, Texts, postings_from, text_of}
 use Rattle.wu_image.specs.LayoutRules.{IsText, lies_in}
 use Rattle.wu_image.specs.Texts.{IsBrokenText}
+use Rattle.wu_image.specs.Images.{text_held}
 use Rattle.wu_check.specs.Imaged.{IndexesTexts, counts_in, given}
 use Rattle.wu_check.specs.Terms.{HaveTermAt, HaveTermsFrom}
-use Rattle.wu_check.specs.Wrong.{AreSoundTexts, HasTokens, IsSound, IsSoundPart, IsWrongText, counts_of, live_of, parts_of, text_held}
+use Rattle.wu_check.specs.Wrong.{AreSoundTexts, HasTokens, IsSound, IsSoundPart, IsWrongText, counts_of, live_of, parts_of}
 
 -- ---- the terms of postings
 

@@ -30,10 +30,11 @@ use Rattle.wu_layout.proofs.PostingLemmas.{Ascend-bounds, Ascend-filter, Ascend-
 use Rattle.wu_token.specs.Tokens.{tokens_of}
 use Rattle.wu_image.specs.declared.records.FileRec.{FileRec}
 use Rattle.wu_image.specs.LayoutRules.{lies_in}
+use Rattle.wu_image.specs.Images.{text_held}
 use Rattle.wu_check.specs.Imaged.{HasPostings}
 use Rattle.wu_check.specs.Numbered.{addresses_in}
 use Rattle.wu_check.specs.Terms.{HaveTermAt, HaveTermsFrom}
-use Rattle.wu_check.specs.Wrong.{HasTokens, IsSoundPart, text_held}
+use Rattle.wu_check.specs.Wrong.{HasTokens, IsSoundPart}
 use Rattle.wu_check.proofs.ListPostings.{AreLists, has_spread, its_posting, list_has, spread, spread_ascends, spread_has, spread_lists}
 use Rattle.wu_check.proofs.ReadLists.{block_ascends}
 

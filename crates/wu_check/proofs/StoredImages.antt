@@ -1,11 +1,11 @@
 -- A sound store is an image of a state.
-use Rattle.std.proofs.Common.{◌≡◌, ◌≢◌, ℕ, zero, suc, ◌<◌, ◌≤◌, Bool, true, false, cond, List, [], ◌∷◌, length, map, filter}
-use Rattle.std.proofs.Common.{refl, ap, sym, ◌∙◌, subst, inl, inr, ⊎_elim, arith, get_or, Less}
+use Rattle.std.proofs.Common.{◌≡◌, ◌≢◌, ℕ, zero, suc, ◌<◌, ◌≤◌, Bool, cond, List, [], ◌∷◌, length, map}
+use Rattle.std.proofs.Common.{refl, ap, sym, ◌∙◌, subst, inl, inr, ⊎_elim, arith, get_or}
 use Rattle.std.specs.Prelude.{IsPermutation, Option, Some, None, unwrap_or}
 use Rattle.std.specs.Ordering.{nat_cmp}
 use Rattle.std.specs.List.{AllByRecursion, AllZip}
 use Rattle.std.specs.List.Sorted.{IsNonDecreasingBy, IsStrictlySortedBy}
-use Rattle.std.specs.Map.{keys_of, lookup}
+use Rattle.std.specs.Map.{lookup}
 use Rattle.std.specs.BTreeMap.{is_at}
 use Rattle.std.proofs.lemmas.Bool.{cases_eq, cases_lt, eq-eqb, ne_eqb}
 use Rattle.std.proofs.lemmas.List.Sorted.{IsPermutation-cons, IsPermutation-middle, IsPermutation-refl, IsPermutation-trans}
@@ -16,45 +16,21 @@ use Rattle.wu_outside.specs.Content.{Content}
 use Rattle.wu_layout.specs.Layouts.{FileEntry, Layout, Part, first_layout}
 use Rattle.wu_token.specs.Tokens.{tokens_of}
 use Rattle.wu_token.proofs.LengthLemmas.{length-text, length-tokens_of}
-use Rattle.wu_tree.specs.declared.events.Node.{Node}
-use Rattle.wu_tree.specs.FileSystems.{FileSystem, is_kind_file, root_alone}
+use Rattle.wu_tree.specs.FileSystems.{FileSystem, root_alone}
 use Rattle.wu_tree.proofs.ListTests.{keys_mapped}
 use Rattle.wu_image.specs.declared.checkpoints.Checkpoint.{Checkpoint}
 use Rattle.wu_image.specs.declared.records.FileRec.{FileRec}
 use Rattle.wu_image.specs.declared.roots.Root.{Root}
-use Rattle.wu_image.specs.Checkpoints.{IsCheckpoint, file_numbers}
-use Rattle.wu_image.specs.Images.{HasSaved, HoldsPart, HoldsText, IsByAddress, IsImage, IsSaved, Texts, postings_from, text_of}
+use Rattle.wu_image.specs.Checkpoints.{IsCheckpoint}
+use Rattle.wu_image.specs.Images.{HasSaved, HoldsPart, HoldsText, IsByAddress, IsImage, IsSaved, Texts, postings_from, text_held, text_of}
 use Rattle.wu_image.specs.LayoutRules.{IsText}
 use Rattle.wu_image.specs.Texts.{IsBrokenText}
+use Rattle.wu_image.proofs.FileNumbers.{file_numbers_ascend}
 use Rattle.wu_check.specs.Imaged.{counts_in}
-use Rattle.wu_check.specs.Wrong.{AreSoundTexts, IsRootOf, IsSound, IsSoundPart, IsSoundUnder, IsWrongText, counts_of, parts_of, text_held}
+use Rattle.wu_check.specs.Wrong.{AreSoundTexts, IsRootOf, IsSound, IsSoundPart, IsSoundUnder, IsWrongText, counts_of, parts_of}
 use Rattle.wu_check.specs.declared.checking.Checked.{Checked}
 use Rattle.wu_check.proofs.SoundImages.{its_counts}
 use Rattle.wu_check.proofs.SoundPostings.{part_of_postings}
-
--- ---- the numbers of the files ascend
-
-above_files : (number : ℕ) (nodes : List (ℕ × Node)) → AllByRecursion (λ q. nat_cmp number q ≡ Less) (keys_of nodes)
-    → AllByRecursion (λ q. nat_cmp number q ≡ Less) (file_numbers nodes)
-above_files number [] a = tt
-above_files number (node ∷ nodes) a =
-    elim (is_kind_file node.1.kind) as
-    (λ b. AllByRecursion (λ q. nat_cmp number q ≡ Less)
-    (map (λ n. n.0) (cond b (node ∷ filter (λ n. is_kind_file n.1.kind) nodes) (filter (λ n. is_kind_file n.1.kind) nodes)))) [
-      | true ↦ (a.0, above_files number nodes a.1)
-      | false ↦ above_files number nodes a.1
-    ]
-
-files_ascend : (nodes : List (ℕ × Node)) → IsStrictlySortedBy nat_cmp (keys_of nodes) → IsStrictlySortedBy nat_cmp (file_numbers nodes)
-unfolding IsStrictlySortedBy
-files_ascend [] s = tt
-files_ascend (node ∷ nodes) s =
-    elim (is_kind_file node.1.kind) as
-    (λ b. IsStrictlySortedBy nat_cmp
-    (map (λ n. n.0) (cond b (node ∷ filter (λ n. is_kind_file n.1.kind) nodes) (filter (λ n. is_kind_file n.1.kind) nodes)))) [
-      | true ↦ (above_files node.0 nodes s.0, files_ascend nodes s.1)
-      | false ↦ files_ascend nodes s.1
-    ]
 
 -- ---- files in the order of their addresses
 
@@ -232,7 +208,7 @@ module _ (content : Content) (root : Root) (checkpoint : Checkpoint) (rules : Is
   found =
       all_found texts
       (subst (IsStrictlySortedBy nat_cmp) (sym (keys_mapped (λ (file : FileRec). (file.ino, text_held content file)) files))
-      (subst (IsStrictlySortedBy nat_cmp) (sym rules.files) (files_ascend checkpoint.tree.nodes rules.tree.nodes_ascend)))
+      (subst (IsStrictlySortedBy nat_cmp) (sym rules.files) (file_numbers_ascend checkpoint.tree.nodes rules.tree.nodes_ascend)))
 
   its_text : (file : FileRec) → Has file files → text_of texts file.ino ≡ text_held content file
   its_text file h =

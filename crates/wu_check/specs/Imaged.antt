@@ -9,9 +9,8 @@ use Rattle.wu_outside.specs.Content.{Content}
 use Rattle.wu_token.specs.Tokens.{tokens_of}
 use Rattle.wu_token.specs.Words.{has_bytes}
 use Rattle.wu_image.specs.declared.records.FileRec.{FileRec}
-use Rattle.wu_image.specs.Images.{HoldsPart, Texts, text_of}
+use Rattle.wu_image.specs.Images.{HoldsPart, Texts, text_held, text_of}
 use Rattle.wu_image.specs.LayoutRules.{lies_in}
-use Rattle.wu_check.specs.Wrong.{text_held}
 use Rattle.wu_check.specs.declared.checking.Checked.{Checked}
 use Rattle.wu_check.specs.declared.checking.Checked.TheVariants.{Sound}
 

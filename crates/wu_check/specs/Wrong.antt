@@ -1,6 +1,6 @@
 -- What is wrong in a store, and what is counted of one in which nothing is: of the root, the checkpoint, the texts by their addresses and
 -- the parts from left to right the first that isn't as it was saved.
-use Rattle.std.specs.Prelude.{◌≡◌, ◌⊎◌, ℕ, ◌<◌, ◌≤◌, ◌==◌, true, if◌then◌else◌, List, [], ◌∷◌, length, sum_by, None, Some, unwrap_or}
+use Rattle.std.specs.Prelude.{◌≡◌, ◌⊎◌, ℕ, ◌<◌, ◌≤◌, ◌==◌, true, if◌then◌else◌, List, [], ◌∷◌, length, sum_by, None, Some}
 use Rattle.std.specs.List.{AllByRecursion}
 use Rattle.wu_base.specs.declared.addresses.PartRec.{PartRec}
 use Rattle.wu_base.specs.declared.addresses.TermList.{TermList}
@@ -12,7 +12,7 @@ use Rattle.wu_image.specs.declared.checkpoints.Checkpoint.{Checkpoint}
 use Rattle.wu_image.specs.declared.records.FileRec.{FileRec}
 use Rattle.wu_image.specs.declared.roots.Root.{Root}
 use Rattle.wu_image.specs.Breakage.{IsBrokenRoot}
-use Rattle.wu_image.specs.Images.{IsByAddress, IsCheckpointOf}
+use Rattle.wu_image.specs.Images.{IsByAddress, IsCheckpointOf, text_held}
 use Rattle.wu_image.specs.LayoutRules.{lies_in}
 use Rattle.wu_image.specs.Roots.{SpellsRoot}
 use Rattle.wu_image.specs.Texts.{IsBrokenText}
@@ -48,10 +48,6 @@ parts_of version checkpoint = if version == 2 then checkpoint.parts else []
 -- a text that isn't empty is broken: the empty text is in no blob
 abbrev pub IsWrongText : Content → FileRec → Type 0
 IsWrongText content file = (0 < file.blob) × IsBrokenText file (content.blobs file.blob)
-
--- what the store has of a text
-abbrev pub text_held : Content → FileRec → List ℕ
-text_held content file = if file.blob == 0 then [] else unwrap_or (content.blobs file.blob) []
 
 -- the lists have the tokens of the file's text, one at each address of its range
 abbrev pub HasTokens : Content → List TermList → FileRec → Type 0

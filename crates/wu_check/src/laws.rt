@@ -6,10 +6,10 @@ ghost use Rattle.wu_layout.specs.Layouts.{Layout, Part};
 ghost use Rattle.wu_outside.specs.Content.{Content};
 ghost use Rattle.wu_token.specs.Tokens.{tokens_of};
 ghost use Rattle.wu_tree.specs.FileSystems.{FileSystem};
-ghost use Rattle.wu_image.specs.Images.{IsImage, Texts};
+ghost use Rattle.wu_image.specs.Images.{IsImage, Texts, text_held};
 ghost use Rattle.wu_image.specs.declared.records.FileRec.{FileRec};
 ghost use Rattle.wu_check.specs.Imaged.{HasPostings, IndexesTexts, counts_in};
-ghost use Rattle.wu_check.specs.Wrong.{IsChecked, IsSound, IsSoundPart, text_held};
+ghost use Rattle.wu_check.specs.Wrong.{IsChecked, IsSound, IsSoundPart};
 ghost use Rattle.wu_check.specs.declared.checking.Checked.{Checked};
 
 /// A law: of one content one thing is found. A store that is sound has nothing wrong in it, its

@@ -1,16 +1,15 @@
 -- What an engine records is sound when it is opened.
-use Rattle.std.proofs.Common.{◌≡◌, ◌≢◌, inl, inr, ⊎_elim, ℕ, ◌+◌, ◌<◌, ◌≤◌, ◌==◌, nat_lt, eqb, true, false, cond, List, [], ◌∷◌, length}
-use Rattle.std.proofs.Common.{map, filter, count_by, refl, ap, sym, ◌∙◌, subst, arith}
+use Rattle.std.proofs.Common.{◌≡◌, inl, inr, ℕ, ◌==◌, cond, List, [], ◌∷◌, length}
+use Rattle.std.proofs.Common.{map, count_by, refl, ap, sym, ◌∙◌, subst, arith}
 use Rattle.std.specs.Prelude.{Option, Some, None, IfSome, zip}
-use Rattle.std.specs.List.{AllByRecursion, Contains, IsDistinct}
-use Rattle.std.proofs.lemmas.Bool.{cases_eq, eq-eqb}
+use Rattle.std.specs.List.{AllByRecursion, Contains}
 use Rattle.wu_base.specs.declared.addresses.PartRec.{PartRec}
-use Rattle.wu_base.proofs.Members.{Contains-from_Has, Has, Has-append_right, Has-map, all_from_has, all_has}
+use Rattle.wu_base.proofs.Members.{Contains-from_Has, Has}
 use Rattle.wu_outside.specs.Content.{Content}
 use Rattle.wu_outside.specs.declared.ranges.ReadRange.{ReadRange}
 use Rattle.wu_layout.specs.Invariants.{BlobsAreDistinct}
 use Rattle.wu_layout.specs.Layouts.{FileEntry}
-use Rattle.wu_layout.proofs.BlobLemmas.{count-append, count-cons, once_other, once_same}
+use Rattle.wu_layout.proofs.BlobLemmas.{once_other}
 use Rattle.wu_space.proofs.Files.{sum_by-map}
 use Rattle.wu_part.specs.Directories.{PartDirectory}
 use Rattle.wu_part.specs.Parts.{IsDirectoryOf}
@@ -22,10 +21,10 @@ use Rattle.wu_parts.proofs.Putting.{has-none}
 use Rattle.wu_image.specs.declared.checkpoints.Checkpoint.{Checkpoint}
 use Rattle.wu_image.specs.declared.records.FileRec.{FileRec}
 use Rattle.wu_image.specs.declared.roots.Root.{Root}
-use Rattle.wu_image.specs.Images.{postings_from}
-use Rattle.wu_image.specs.LayoutRules.{AreLayoutRules, named_blobs}
+use Rattle.wu_image.specs.Images.{postings_from, text_held}
+use Rattle.wu_image.specs.LayoutRules.{AreLayoutRules}
+use Rattle.wu_image.proofs.BlobCounts.{blobs_distinct as layout_blobs}
 use Rattle.wu_space.specs.Addresses.{Addresses}
-use Rattle.wu_query.specs.Finding.{text_held}
 use Rattle.wu_query.specs.Records.{Records}
 use Rattle.wu_engine.specs.declared.engines.Engine.{Engine}
 use Rattle.wu_engine.specs.Going.{Goes, HasSaved, IsSoundIn, IsSoundPart, IsSoundText, entries_of, entry_for, parts_kept}
@@ -33,40 +32,6 @@ use Rattle.wu_engine.specs.Opened.{IsEngineFor, IsFirstEngine, numbered}
 use Rattle.wu_engine.specs.Opening.{HasCheckpoint, HasOpenRoot, HasRoot}
 use Rattle.wu_engine.specs.Reindexed.{IsReindexed}
 use Rattle.wu_engine.proofs.GoingUnits.{named_by_blobs, named_by_parts}
-use Rattle.wu_engine.proofs.SavedBlobs.{times, times-positive}
-
--- ---- numbers that are counted
-
--- a number that none has is never counted
-none_counted : {X : Type 0} (number_of : X → ℕ) (number : ℕ) (xs : List X) → AllByRecursion (λ x. number_of x ≢ number) xs
-    → count_by (λ x. number_of x == number) xs ≡ 0
-none_counted number_of number [] other = refl
-none_counted {X} number_of number (x ∷ xs) other =
-    omega (
-      arith,
-      count-cons (λ (y : X). number_of y == number) x xs,
-      once_other (number_of x) number other.0,
-      none_counted number_of number xs other.1,
-    )
-
--- where none is equal to a later one, each is counted once
-times_once : (number : ℕ) (numbers : List ℕ) → IsDistinct eqb numbers → times number numbers ≤ 1
-unfolding IsDistinct
-times_once number [] d = omega arith
-times_once number (first ∷ numbers) d =
-    let split = count-cons (λ (other : ℕ). other == number) first numbers in
-    ⊎_elim
-    (λ (e : first ≡ number). omega (arith, split, once_same first number e, none_counted (λ (n : ℕ). n) number numbers (others e)))
-    (λ (o : first ≢ number). omega (arith, split, once_other first number o, times_once number numbers d.1))
-    (cases_eq first number)
-  where
-    others : first ≡ number → AllByRecursion (λ n. n ≢ number) numbers
-    others e =
-        all_from_has (λ (n : ℕ). n ≢ number) numbers
-        (λ later has same.
-        let never : eqb first later ≡ false = all_has (λ (n : ℕ). eqb first n ≡ false) later numbers d.0 has in
-        let always : eqb first later ≡ true = eq-eqb first later (e ∙ sym same) in
-        absurd cc)
 
 -- the files' records name the blobs of their texts
 texts_counted : (number : ℕ) (files : List FileRec)
@@ -75,10 +40,6 @@ texts_counted number files =
     sum_by-map (λ (entry : ℕ × FileEntry). cond {A = ℕ} (entry.1.blob == number) 1 0) (λ (file : ℕ × FileRec). (file.0, entry_for file.1))
     (numbered files)
     ∙ sum_by-map (λ (file : ℕ × FileRec). cond {A = ℕ} (file.1.blob == number) 1 0) (λ (file : FileRec). (file.ino, file)) files
-
-blobs_counted : (number : ℕ) (files : List FileRec)
-    → times number (map (λ file. file.blob) files) ≡ count_by (λ file. file.blob == number) files
-blobs_counted number files = sum_by-map (λ (n : ℕ). cond {A = ℕ} (n == number) 1 0) (λ (file : FileRec). file.blob) files
 
 -- ---- what was saved
 
@@ -90,81 +51,15 @@ module _ (content : Content) (root : Root) (found : HasRoot content root) (check
   abbrev parts : List PartRec
   parts = checkpoint.parts
 
-  abbrev blobs : List ℕ
-  blobs = named_blobs files parts
-
   rules : AreLayoutRules checkpoint.next_address checkpoint.next_blob checkpoint.flushes files parts
   rules = has.spelled.spelled.holds.layout
 
-  -- texts and parts name each blob as often as the rules count it
-  both_counted : (number : ℕ) → 0 < number
-      → count_by (λ file. file.1.blob == number) (entries_of (numbered files)) + count_by (λ part. part.blob == number) (as_parts parts)
-      ≡ times number blobs
-  both_counted number l =
-      omega (
-        arith,
-        texts_counted number files,
-        blobs_counted number files,
-        named_by_parts number parts,
-        named_by_blobs number parts,
-        times-positive number l (map (λ file. file.blob) files),
-        count-append (λ (other : ℕ). other == number) (filter (nat_lt 0) (map (λ file. file.blob) files)) (map (λ part. part.blob) parts),
-      )
-
-  -- the checkpoint's own blob is none of theirs
-  its_own : (number : ℕ) → root.checkpoint ≡ number
-      → count_by (λ file. file.1.blob == number) (entries_of (numbered files)) + count_by (λ part. part.blob == number) (as_parts parts) ≡ 0
-  its_own number same =
-      omega (
-        arith,
-        texts_counted number files,
-        named_by_parts number parts,
-        none_counted (λ (file : FileRec). file.blob) number files
-            (subst (λ (n : ℕ). AllByRecursion (λ (file : FileRec). file.blob ≢ n) files) same has.spelled.of_no_text),
-        none_counted (λ (part : PartRec). part.blob) number parts
-            (subst (λ (n : ℕ). AllByRecursion (λ (part : PartRec). part.blob ≢ n) parts) same has.spelled.of_no_part),
-      )
-
-  -- nor is one that was never drawn
-  not_drawn : (number : ℕ) → checkpoint.next_blob ≤ number → times number blobs ≡ 0
-  not_drawn number above =
-      none_counted (λ (n : ℕ). n) number blobs
-      (all_from_has (λ (n : ℕ). n ≢ number) blobs
-      (λ blob is same. omega (arith, above, same, (all_has (λ (n : ℕ). (0 < n) × (n < checkpoint.next_blob)) blob blobs rules.drawn is).1)))
-
-  -- each part has a blob
-  parts_positive : AllByRecursion (λ part. part.blob ≢ 0) parts
-  parts_positive =
-      all_from_has (λ (part : PartRec). part.blob ≢ 0) parts
-      (λ part is none.
-      omega (
-        arith,
-        none,
-        (all_has (λ (n : ℕ). (0 < n) × (n < checkpoint.next_blob)) part.blob blobs rules.drawn
-            (Has-append_right part.blob (filter (nat_lt 0) (map (λ file. file.blob) files)) (map (λ recorded. recorded.blob) parts)
-            (Has-map (λ (recorded : PartRec). recorded.blob) part parts is))).0,
-      ))
-
   blobs_distinct : BlobsAreDistinct checkpoint.next_blob (entries_of (numbered files)) (as_parts parts) root.checkpoint []
-  blobs_distinct = record {
-    positive = omega (arith, found.spelled.drawn, has.spelled.next_blob);
-    distinct = λ number l.
-        ⊎_elim
-        (λ (same : root.checkpoint ≡ number). omega (arith, once_same root.checkpoint number same, its_own number same))
-        (λ (other : root.checkpoint ≢ number).
-        omega (arith, once_other root.checkpoint number other, both_counted number l, times_once number blobs rules.distinct))
-        (cases_eq root.checkpoint number);
-    below = λ number above.
-        let drawn : root.checkpoint ≢ number = λ same. omega (arith, same, above, found.spelled.drawn, has.spelled.next_blob) in
-        omega (
-          arith,
-          once_other root.checkpoint number drawn,
-          both_counted number (omega (arith, above, found.spelled.drawn, has.spelled.next_blob)),
-          not_drawn number above,
-        );
-    of_parts = named_by_parts 0 parts ∙ none_counted (λ (part : PartRec). part.blob) 0 parts parts_positive;
-    of_stale = refl;
-  }
+  blobs_distinct =
+      layout_blobs checkpoint.next_address checkpoint.next_blob checkpoint.flushes files parts rules (entries_of (numbered files))
+      (as_parts parts) root.checkpoint [] (λ number. texts_counted number files)
+      (λ number. omega (arith, named_by_parts number parts)) found.spelled.some
+      (omega (arith, found.spelled.drawn, has.spelled.next_blob)) has.spelled.of_no_text has.spelled.of_no_part
 
   -- ---- texts and parts
 

@@ -14,7 +14,6 @@ use Rattle.std.proofs.lemmas.List.Sorted.{Contains-permutation, IsPermutation-sy
 use Rattle.wu_base.specs.declared.addresses.Range.{Range}
 use Rattle.wu_base.specs.declared.limits.TheConstants.{SPENT_AT}
 use Rattle.wu_base.proofs.Members.{Contains-from_Has, Has, Has-from_Contains, Has-map, all_has}
-use Rattle.wu_engine.proofs.SavedTexts.{file_numbers_ascend, kept_above}
 use Rattle.wu_base.specs.Ranges.{is_in}
 use Rattle.wu_tree.specs.declared.events.Node.{Node}
 use Rattle.wu_tree.specs.FileSystems.{is_file_node, is_kind_file}
@@ -26,6 +25,7 @@ use Rattle.wu_parts.specs.Contents.{Contents}
 use Rattle.wu_image.specs.declared.checkpoints.Checkpoint.{Checkpoint}
 use Rattle.wu_image.specs.declared.records.FileRec.{FileRec}
 use Rattle.wu_image.specs.Checkpoints.{IsCheckpoint, file_numbers}
+use Rattle.wu_image.proofs.FileNumbers.{file_numbers_ascend, kept_above}
 use Rattle.wu_image.specs.LayoutRules.{AreLayoutRules, IsText}
 use Rattle.wu_image.proofs.RuleLemmas.{sum_of_map}
 use Rattle.wu_query.specs.Records.{recorded_ranges}

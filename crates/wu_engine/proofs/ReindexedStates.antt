@@ -18,10 +18,9 @@ use Rattle.wu_parts.specs.Memory.{HasPostings}
 use Rattle.wu_image.specs.declared.checkpoints.Checkpoint.{Checkpoint}
 use Rattle.wu_image.specs.declared.records.FileRec.{FileRec}
 use Rattle.wu_image.specs.declared.roots.Root.{Root}
-use Rattle.wu_image.specs.Images.{HasSaved, HoldsText, IsRenewed, postings_from, text_of}
+use Rattle.wu_image.specs.Images.{HasSaved, HoldsText, IsRenewed, postings_from, text_held, text_of}
 use Rattle.wu_image.specs.LayoutRules.{AreLayoutRules, IsText}
 use Rattle.wu_image.proofs.FileOrder.{AreFilled, moved_has, same_order}
-use Rattle.wu_query.specs.Finding.{text_held}
 use Rattle.wu_query.specs.States.{State, Texts}
 use Rattle.wu_engine.specs.declared.engines.Engine.{Engine}
 use Rattle.wu_engine.specs.Opened.{IsEngineFor, numbered, ranges_recorded}

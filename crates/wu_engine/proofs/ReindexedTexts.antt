@@ -25,12 +25,12 @@ use Rattle.wu_image.specs.declared.checkpoints.Checkpoint.{Checkpoint}
 use Rattle.wu_image.specs.declared.records.FileRec.{FileRec}
 use Rattle.wu_image.specs.Checkpoints.{IsCheckpoint}
 use Rattle.wu_image.specs.Checks.{AreInOrder}
-use Rattle.wu_image.specs.Images.{IsByAddress, postings_from}
+use Rattle.wu_image.specs.Images.{IsByAddress, postings_from, text_held}
 use Rattle.wu_image.specs.LayoutRules.{IsText}
 use Rattle.wu_image.proofs.FileOrder.{moved_has}
 use Rattle.wu_image.proofs.RangesInOrder.{files_in_order}
 use Rattle.wu_query.specs.Causes.{IsBrokenIn}
-use Rattle.wu_query.specs.Finding.{AreFirstOf, IsCause, text_held}
+use Rattle.wu_query.specs.Finding.{AreFirstOf, IsCause}
 use Rattle.wu_query.specs.Permitted.{ReadsOnly, ReadsSuch}
 use Rattle.wu_query.specs.Reads.{IsOfText, whole_text}
 use Rattle.wu_query.proofs.PermittedBlocks.{reads_joined}

@@ -1,68 +1,18 @@
 -- The blobs that a layout names of texts and parts, by the rules of a checkpoint.
-use Rattle.std.proofs.Common.{◌≡◌, ℕ, ◌+◌, ◌<◌, ◌≤◌, ◌==◌, nat_lt, eqb, true, false, cond, List, [], ◌∷◌, map, filter, count_by, refl, ap}
-use Rattle.std.proofs.Common.{sym, ◌∙◌, subst, inl, inr, ⊎_elim, arith, eq-zero-or-pos}
+use Rattle.std.proofs.Common.{◌≡◌, ℕ, ◌+◌, ◌<◌, ◌≤◌, ◌==◌, nat_lt, eqb, cond, List, [], ◌∷◌, map, filter, count_by, refl, ap}
+use Rattle.std.proofs.Common.{◌∙◌, subst, ⊎_elim, arith, eq-zero-or-pos}
 use Rattle.std.specs.List.{AllByRecursion, IsDistinct}
-use Rattle.std.proofs.lemmas.Bool.{cases_lt, ltb-false, ltb-true, ne_eqb}
+use Rattle.std.proofs.lemmas.Bool.{cases_lt, ltb-true}
 use Rattle.wu_base.specs.declared.addresses.PartRec.{PartRec}
 use Rattle.wu_base.proofs.Members.{Has, Has-append_cases, all_from_has, filter_has}
 use Rattle.wu_layout.specs.Layouts.{FileEntry, Part}
 use Rattle.wu_layout.specs.Invariants.{BlobsAreDistinct}
-use Rattle.wu_layout.proofs.BlobLemmas.{count-append, count-cons, once, once_other, once_same}
+use Rattle.wu_layout.proofs.BlobLemmas.{count-append}
 use Rattle.wu_image.specs.LayoutRules.{named_blobs}
+use Rattle.wu_image.proofs.BlobCounts.{distinct_by_times, times, times-has, times-positive}
 use Rattle.wu_image.proofs.RuleLemmas.{sum_of_map}
 use Rattle.wu_query.specs.States.{Texts}
 use Rattle.wu_engine.proofs.SavedTexts.{file_records}
-
--- ---- numbers that are counted
-
-abbrev pub times : ℕ → List ℕ → ℕ
-times number numbers = count_by (λ other. other == number) numbers
-
-pub times-has : (number : ℕ) (numbers : List ℕ) → Has number numbers → 1 ≤ times number numbers
-times-has number [] h = absurd h
-times-has number (first ∷ numbers) h =
-    let split = count-cons (λ (other : ℕ). other == number) first numbers in
-    ⊎_elim
-    (λ (e : first ≡ number). omega (arith, split, once_same first number e))
-    (λ (i : Has number numbers). omega (arith, split, times-has number numbers i))
-    h
-
--- where each is counted once, none is equal to a later one
-pub distinct_by_times : (numbers : List ℕ) → ((number : ℕ) → Has number numbers → times number numbers ≤ 1) → IsDistinct eqb numbers
-unfolding IsDistinct
-distinct_by_times [] f = tt
-distinct_by_times (first ∷ numbers) f = (
-  all_from_has (λ (later : ℕ). eqb first later ≡ false) numbers
-      (λ later h. ne_eqb first later (λ e. twice later e h)),
-  distinct_by_times numbers (λ number h. omega (arith, f number (inr h), count-cons (λ (other : ℕ). other == number) first numbers)),
-)
-  where
-    twice : (later : ℕ) → first ≡ later → Has later numbers → ⊥
-    twice later e h =
-        let more : 1 ≤ times first numbers = times-has first numbers (subst (λ (k : ℕ). Has k numbers) (sym e) h) in
-        omega (
-          arith,
-          more,
-          f first (inl refl),
-          count-cons (λ (other : ℕ). other == first) first numbers,
-          once_same first first refl,
-        )
-
--- without the zeros a positive number stands as often
-pub times-positive : (number : ℕ) → 0 < number → (numbers : List ℕ) → times number (filter (nat_lt 0) numbers) ≡ times number numbers
-times-positive number l [] = refl
-times-positive number l (first ∷ numbers) =
-    let split = count-cons (λ (other : ℕ). other == number) first numbers in
-    let rest = times-positive number l numbers in
-    elim (nat_lt 0 first) as
-    (λ b. nat_lt 0 first ≡ b
-    → times number (cond b (first ∷ filter (nat_lt 0) numbers) (filter (nat_lt 0) numbers)) ≡ times number (first ∷ numbers)) [
-      | true ↦ λ p. omega (arith, split, rest, count-cons (λ (other : ℕ). other == number) first (filter (nat_lt 0) numbers))
-      | false ↦ λ p.
-          let low : first ≤ 0 = ltb-false 0 first p in
-          let none : once first number ≡ 0 = once_other first number (λ e. omega arith) in
-          omega (arith, split, rest, none)
-    ] refl
 
 blobs_recorded : (texts : Texts) (files : List (ℕ × FileEntry))
     → map (λ file. file.blob) (file_records texts files) ≡ map (λ file. file.1.blob) files

@@ -12,8 +12,7 @@ use Rattle.wu_parts.specs.Loading.{IsLoaded}
 use Rattle.wu_parts.specs.Memory.{HasPostings}
 use Rattle.wu_image.specs.declared.checkpoints.Checkpoint.{Checkpoint}
 use Rattle.wu_image.specs.declared.records.FileRec.{FileRec}
-use Rattle.wu_image.specs.Images.{IsByAddress, postings_from}
-use Rattle.wu_query.specs.Finding.{text_held}
+use Rattle.wu_image.specs.Images.{IsByAddress, postings_from, text_held}
 use Rattle.wu_query.specs.Soundness.{IsRecord}
 use Rattle.wu_engine.specs.Opening.{IsIndexDamaged, IsIndexRange}
 use Rattle.wu_engine.specs.Reindexing.{IsThere, texts_whole}

@@ -17,7 +17,7 @@ FollowFrom from files = AreInOrder from (map (λ file. file.range) files)
 abbrev pub AreFilled : List FileRec → Type 0
 AreFilled files = AllByRecursion (λ file. 0 < file.range.len) files
 
-starts_later : (from : ℕ) (files : List FileRec) (file : FileRec) → FollowFrom from files → Has file files → from ≤ file.range.start
+pub starts_later : (from : ℕ) (files : List FileRec) (file : FileRec) → FollowFrom from files → Has file files → from ≤ file.range.start
 starts_later from [] file o h = absurd h
 starts_later from (first ∷ files) file o h =
     ⊎_elim

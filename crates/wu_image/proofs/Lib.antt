@@ -1,4 +1,5 @@
 pub mod AclItems
+pub mod BlobCounts
 pub mod HomeLemmas
 pub mod ImageLemmas
 pub mod ItemLemmas
@@ -9,6 +10,7 @@ pub mod NodeLemmas
 pub mod RootLemmas
 pub mod RuleLemmas
 pub mod RangesInOrder
+pub mod FileNumbers
 pub mod FileOrder
 pub mod DistinctBlobs
 pub mod UniqueItems

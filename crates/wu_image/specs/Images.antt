@@ -1,5 +1,5 @@
 -- What a store holds of a state that was saved: its tree, its files' texts and the layout of its index.
-use Rattle.std.specs.Prelude.{◌≡◌, ◌≢◌, ◌⊎◌, IsPermutation, ℕ, ◌<◌, Option, None, Some, unwrap_or, List, [], length, map}
+use Rattle.std.specs.Prelude.{◌≡◌, ◌≢◌, ◌⊎◌, IsPermutation, ℕ, ◌<◌, ◌==◌, if◌then◌else◌, Option, None, Some, unwrap_or, List, [], length, map}
 use Rattle.std.specs.Ordering.{nat_cmp}
 use Rattle.std.specs.List.{AllByRecursion, AllZip, flat_map}
 use Rattle.std.specs.List.Sorted.{IsNonDecreasingBy}
@@ -27,6 +27,10 @@ Texts = List (ℕ × List ℕ)
 -- the text of a file, and no text of what is no file
 abbrev pub text_of : Texts → ℕ → List ℕ
 text_of texts ino = unwrap_or (lookup (is_at (nat_cmp ino)) texts) []
+
+-- what a store with that content has of a text that is recorded: the empty text is in no blob
+abbrev pub text_held : Content → FileRec → List ℕ
+text_held content file = if file.blob == 0 then [] else unwrap_or (content.blobs file.blob) []
 
 -- The bytes are those of the checkpoint that the root names. Its numbers are the root's, and its own blob is none of its texts' and
 -- parts'.

@@ -20,6 +20,7 @@ use Rattle.wu_gcl.specs.Extents.{token_hits}
 use Rattle.wu_gcl.specs.Regions.{Region}
 use Rattle.wu_gcl.specs.Terms.{AreTerms}
 use Rattle.wu_image.specs.declared.records.FileRec.{FileRec}
+use Rattle.wu_image.specs.Images.{text_held}
 use Rattle.wu_outside.specs.Content.{Content, no_content}
 use Rattle.wu_outside.specs.declared.ranges.ReadRange.{ReadRange}
 use Rattle.wu_rank.specs.declared.results.Unit.{Unit as RankedUnit}
@@ -32,7 +33,7 @@ use Rattle.wu_frames.specs.declared.Frame.{Frame}
 use Rattle.wu_frames.specs.declared.Frames.{Frames}
 use Rattle.wu_query.specs.Answer.{answer, found_line}
 use Rattle.wu_query.specs.Finding.{KeepsTexts, extents_of, hits_at, hits_recorded, is_at_place, lines_at, lines_recorded, looked_through}
-use Rattle.wu_query.specs.Finding.{text_at, text_held, with_units}
+use Rattle.wu_query.specs.Finding.{text_at, with_units}
 use Rattle.wu_query.specs.Records.{Records, record_at, records_of}
 use Rattle.wu_query.specs.Hits.{hits_in}
 use Rattle.wu_query.specs.Rankings.{tokens_at, unit_at}

@@ -14,10 +14,11 @@ use Rattle.wu_base.specs.declared.addresses.TermList.{TermList}
 use Rattle.wu_gcl.specs.Regions.{Region}
 use Rattle.wu_layout.proofs.EntryLemmas.{IfSome-map2}
 use Rattle.wu_image.specs.declared.records.FileRec.{FileRec}
+use Rattle.wu_image.specs.Images.{text_held}
 use Rattle.wu_view.specs.declared.Seen.{Seen}
 use Rattle.wu_view.specs.Views.{view_of as files_of}
 use Rattle.wu_query.specs.Answer.{found_line}
-use Rattle.wu_query.specs.Finding.{extents_of, lines_at, lines_of_record, lines_recorded, text_held}
+use Rattle.wu_query.specs.Finding.{extents_of, lines_at, lines_of_record, lines_recorded}
 use Rattle.wu_query.specs.Records.{Records, record_at}
 use Rattle.wu_query.specs.Hits.{hits_in}
 use Rattle.wu_query.specs.Reads.{ShowsNoText, text_of_file, texts_read, texts_shown}

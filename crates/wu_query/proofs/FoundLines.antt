@@ -26,6 +26,7 @@ use Rattle.wu_gcl.specs.Extents.{token_hits}
 use Rattle.wu_gcl.specs.Regions.{Region}
 use Rattle.wu_gcl.specs.Terms.{AreTerms}
 use Rattle.wu_image.specs.declared.records.FileRec.{FileRec}
+use Rattle.wu_image.specs.Images.{text_held}
 use Rattle.wu_layout.specs.Invariants.{IsIndexed}
 use Rattle.wu_layout.specs.Layouts.{FileEntry, entry_of, homes_of, postings_of}
 use Rattle.wu_space.specs.Addresses.{Ranges, range_of}
@@ -38,7 +39,7 @@ use Rattle.wu_frames.specs.declared.Frames.{Frames}
 use Rattle.wu_solve.specs.Solving.{frame_hits, frames_hits}
 use Rattle.wu_query.specs.Answer.{answer, found_line, lines_in}
 use Rattle.wu_query.specs.Finding.{KeepsTexts, counted_from, extents_of, hits_at, lines_at, lines_recorded, hits_recorded, text_recorded}
-use Rattle.wu_query.specs.Finding.{text_at, text_held}
+use Rattle.wu_query.specs.Finding.{text_at}
 use Rattle.wu_query.specs.Records.{Records, record_at, record_of, records_of}
 use Rattle.wu_query.specs.Hits.{hits_in, has_hit}
 use Rattle.wu_query.specs.Rankings.{tokens_at}

@@ -3,8 +3,8 @@
 use Rattle.std.specs.Prelude.{ℕ, List, [], Option, None, Some}
 use Rattle.wu_outside.specs.Content.{Content}
 use Rattle.wu_image.specs.declared.records.FileRec.{FileRec}
+use Rattle.wu_image.specs.Images.{text_held}
 use Rattle.wu_view.specs.declared.Seen.{Seen}
-use Rattle.wu_query.specs.Finding.{text_held}
 use Rattle.wu_query.specs.Records.{Records, record_at}
 use Rattle.wu_query.specs.View.{Shown}
 

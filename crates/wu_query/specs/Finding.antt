@@ -1,5 +1,5 @@
 -- The lines that are shown of extents, by what is recorded of files and what the store holds of their texts.
-use Rattle.std.specs.Prelude.{◌≡◌, ◌≢◌, ℕ, ◌+◌, ◌-◌, ◌<◌, ◌≤◌, ◌==◌, Bool, List, [], ◌∷◌, ◌++◌, length, map, Option, None, Some, unwrap_or}
+use Rattle.std.specs.Prelude.{◌≡◌, ◌≢◌, ℕ, ◌+◌, ◌-◌, ◌<◌, ◌≤◌, ◌==◌, Bool, List, [], ◌∷◌, ◌++◌, length, map, Option, None, Some}
 use Rattle.std.specs.Prelude.{if◌then◌else◌}
 use Rattle.std.specs.List.{list_any}
 use Rattle.wu_base.specs.declared.addresses.Extent.{Extent}
@@ -17,6 +17,7 @@ use Rattle.wu_parts.specs.Contents.{Contents}
 use Rattle.wu_space.specs.Addresses.{Ranges}
 use Rattle.wu_gcl.specs.Regions.{Region}
 use Rattle.wu_image.specs.declared.records.FileRec.{FileRec}
+use Rattle.wu_image.specs.Images.{text_held}
 use Rattle.wu_rank.specs.declared.results.Unit.{Unit as RankedUnit}
 use Rattle.wu_solve.specs.Solving.{frame_hits}
 use Rattle.wu_view.specs.declared.Seen.{Seen}
@@ -49,10 +50,6 @@ abbrev pub IsBelow : ℕ → Extent → Type 0
 IsBelow len x = (x.start ≤ x.end) × (x.end < len)
 
 -- ---- lines
-
--- what a store with that content has of a text
-abbrev pub text_held : Content → FileRec → List ℕ
-text_held content file = if file.blob == 0 then [] else unwrap_or (content.blobs file.blob) []
 
 -- the extents of a file with those paths, as they are shown
 abbrev pub lines_of_record : Content → List (List ℕ) → List Extent → FileRec → List Found

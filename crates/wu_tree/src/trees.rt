@@ -81,6 +81,7 @@ impl Tree {
 
     /// The access list of that node, or None where there is no such node or it has no list. Takes no memory, and
     /// time logarithmic in the number of lists.
+    #[inline(always)]
     pub fn acl_of(&self, ino: Ino) -> Option<&Acl>
         ensures { option_copied result ≡ acl_of self.now ino }
     {

@@ -88,6 +88,7 @@ fn meet(tree: &Tree, user: &UserRec, ino: Ino) -> Met
 }
 
 /// What the user meets at that node, which has that access list or none.
+#[inline(always)]
 fn meet_node(user: &UserRec, node: &Node, acl: Option<&Acl>) -> Met
     requires { IsStrictlySortedBy nat_cmp user.now.groups }
     ensures { result ≡ met_node user.now (option_copied acl.entry) (Some node.now) }

@@ -3,8 +3,7 @@ use Rattle.std.specs.Prelude.{IfSome, option_map}
 use Rattle.std.specs.List.{AllByRecursion}
 use Rattle.wu_parts.specs.Memory.{HasPostings}
 use Rattle.wu_image.specs.Checks.{AreInOrder}
-use Rattle.wu_image.specs.Images.{postings_from}
-use Rattle.wu_query.specs.Finding.{text_held}
+use Rattle.wu_image.specs.Images.{postings_from, text_held}
 use Rattle.wu_query.specs.Permitted.{ReadsOnly}
 use Rattle.wu_engine.specs.Reindexing.{IsTextOfOne, IsThere, texts_whole}
 use Rattle.wu_engine.proofs.reindexing.index_texts.Given as goal
