@@ -113,7 +113,7 @@ module _ (root : Root) where
       one_read : (held : Option Content) → IfSome held (λ content. HasOpenRoot content root)
           → IfSome held (λ content. AllByRecursion (IsOpeningRange content) (checkpoint_ranges root))
       one_read None h = tt
-      one_read (Some content) h = (size_opening content h, checkpoint_opening content h, tt)
+      one_read (Some content) h = (size_opening content h, (checkpoint_opening content h, tt))
 
   module _ (checkpoint : Checkpoint) where
     index_opening : (content : Content) → HasOpenRoot content root → HasCheckpoint content root checkpoint → (read : List ReadRange)
@@ -141,7 +141,7 @@ module _ (root : Root) where
             → IfSome held (λ content. AllByRecursion (IsOpeningRange content) (checkpoint_ranges root ++ later.0))
         all_opening None o h a = tt
         all_opening (Some content) o h a =
-            (size_opening content o, checkpoint_opening content o, index_opening content o h later.0 a)
+            (size_opening content o, (checkpoint_opening content o, index_opening content o h later.0 a))
 
     pub opens_saved : (holds : Option Content) (before between after : Option (List ReadRange)) (read : List ReadRange)
         → IfSome holds (λ content. HasOpenRoot content root) → IfSome holds (λ content. HasCheckpoint content root checkpoint)

@@ -215,7 +215,7 @@ module _ (holds : Option Content) where
   pub fronts-sized : (recorded : PartRec) (before after : Option (List ReadRange))
       → after ≡ adds (header_range recorded.blob ∷ asked_size recorded.blob ∷ []) before → ReadsFronts holds (recorded ∷ []) before after
   fronts-sized recorded before after e =
-      (header_range recorded.blob ∷ asked_size recorded.blob ∷ [], (inl (inl refl), inl (inr (inl refl)), tt), e)
+      (header_range recorded.blob ∷ asked_size recorded.blob ∷ [], (inl (inl refl), (inl (inr (inl refl)), tt)), e)
 
   told_of : (n : ℕ) (o : Option (List ℕ)) → TellsLength n o → IfSome o (HasHeader n)
   told_of n None t = tt

@@ -48,8 +48,7 @@ whole_recorded holds (file ∷ files) ino whole =
                   here (positive file.1.blob e),
                 ) in (
                   of_it (record { blob = file.1.blob; at = 0; len = file.1.len }) (inl refl),
-                  of_it (asked_size file.1.blob) (inr (inl refl)),
-                  tt,
+                  (of_it (asked_size file.1.blob) (inr (inl refl)), tt),
                 )
           ]) refl
       | false ↦ λ there. weaken (text_recorded (record_at files ino)) (whole_recorded holds files ino there)
