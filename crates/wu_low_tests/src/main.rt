@@ -11,6 +11,7 @@ mod logarithms;
 mod numbers;
 mod outside;
 mod snips;
+mod terms;
 mod tokens;
 
 use std::alloc::Global;
@@ -44,6 +45,7 @@ where
         "wu_vbyte" => numbers::answer(alloc, call, arguments),
         "wu_access" => access::answer(alloc, call, arguments),
         "wu_token" => tokens::answer(alloc, call, arguments),
+        "wu_terms" => terms::answer(alloc, call, arguments),
         "wu_fields" => fields::answer(alloc, call, arguments),
         "wu_log2" => logarithms::answer(alloc, call, arguments),
         "wu_snip" => snips::answer(alloc, call, arguments),
