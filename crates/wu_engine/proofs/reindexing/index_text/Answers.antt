@@ -20,3 +20,13 @@ pub returns-clause-only : goal.returns-clause-only
 returns-clause-only g c =
     first_only c.args.file.now.blob c.args.file.now.len (g.D.Store.reads c.args.store.now) (g.D.Store.reads c.read_text.new.store)
     c.read_text.ensures.only
+
+pub returns-in_err-text-clause-only : goal.returns-in_err-text-clause-only
+returns-in_err-text-clause-only g c =
+    first_only c.args.file.now.blob c.args.file.now.len (g.D.Store.reads c.args.store.now) (g.D.Store.reads c.read_text.new.store)
+    c.read_text.ensures.only
+
+pub returns-in_err-add_text-clause-only : goal.returns-in_err-add_text-clause-only
+returns-in_err-add_text-clause-only g c =
+    first_only c.args.file.now.blob c.args.file.now.len (g.D.Store.reads c.args.store.now) (g.D.Store.reads c.read_text.new.store)
+    c.read_text.ensures.only
