@@ -24,7 +24,7 @@ use Rattle.wu_view.specs.declared.Seen.{Seen}
 use Rattle.wu_frames.specs.declared.Frames.{Frames}
 use Rattle.wu_parts.specs.Contents.{Contents}
 use Rattle.wu_query.specs.Causes.{IsBlobOf, IsBrokenIn, IsDamagedAt, IsDamagedFor, IsDamagedIn, IsDamagedOf, IsDamagedOver, IsDamagedText}
-use Rattle.wu_query.specs.Finding.{IsBrokenShown, IsCause, extents_of, hits_at, hits_recorded, is_at_place, looked_through, text_at}
+use Rattle.wu_query.specs.Finding.{IsBrokenShown, IsCause, IsQueryCause, extents_of, hits_at, hits_recorded, is_at_place, looked_through, text_at}
 use Rattle.wu_query.specs.Finding.{text_recorded, with_units}
 use Rattle.wu_query.specs.Reads.{text_ranges}
 use Rattle.wu_query.specs.Records.{Records, record_at}
@@ -34,7 +34,7 @@ use Rattle.wu_query.specs.Units.{found_in, list_at, units_in}
 use Rattle.wu_query.proofs.FilesWithExtents.{looked_texts}
 use Rattle.wu_query.proofs.FoundLines.{none_shown}
 use Rattle.wu_query.proofs.PassedCauses.{err_from}
-use Rattle.wu_query.proofs.ReadCauses.{broken_file, cause_after, cause_behind}
+use Rattle.wu_query.proofs.ReadCauses.{broken_file, cause_behind, cause_of_query}
 
 -- ---- one file
 
@@ -113,12 +113,12 @@ pub cause_of_text : {T : Type 0} (r : Result T Trouble) (frames : Frames) (conte
     → (first : Option (List ReadRange)) {between last : Option (List ReadRange)} (read : List ReadRange)
     → between ≡ option_map (λ earlier. earlier ++ read) first
     → IsCause (IsBrokenShown files holds_then region lists k (looked_through few region lists frames)) middle now between last trouble
-    → IfErr r (IsCause (IsDamagedOver frames (Finding k region) contents files holds) before now first last)
+    → IfErr r (IsQueryCause (IsDamagedOver frames (Finding k region) contents files holds) before now first last)
 cause_of_text r frames contents files holds {trouble} is region terms are lists lists_are k few same calm first read earlier cause =
     err_from _ r trouble is
-    (cause_behind read earlier
-    (cause_after calm cause
-    (λ blob broken. inr (text_needed frames contents files holds region terms are lists lists_are k few blob (rw same at broken)))))
+    (cause_of_query calm (cause_behind read earlier cause)
+    (λ ranges blob bytes broken.
+    inr (bytes, text_needed frames contents files holds region terms are lists lists_are k few blob (rw same at broken))))
 
 -- ---- any damage of a query
 
@@ -134,7 +134,7 @@ module _ (holds : Option Content) (blob : ℕ) (files : Records) where
   text_damaged (seen ∷ view) damaged =
       ⊎_elim (λ here. one_damaged seen.ino (record_at files seen.ino) refl here) (λ later. text_damaged view later) damaged
 
-  pub damaged_in : (fs : FileSystem) (live : Ranges) (uid : ℕ) (question : Question) (contents : Contents)
-      → IsDamagedFor fs live uid question contents files holds blob → IsDamagedIn files contents holds blob
+  pub damaged_in : (fs : FileSystem) (live : Ranges) (uid : ℕ) (question : Question) (contents : Contents) {read : List ReadRange}
+      → IsDamagedFor fs live uid question contents files holds read blob → IsDamagedIn files contents holds blob
   damaged_in fs live uid question contents found =
-      ⊎_elim (λ part. inr part.1) (λ text. inl (text_damaged found.frames.seen text.damaged)) found.needed
+      ⊎_elim (λ part. inr part.1) (λ text. inl (text_damaged found.frames.seen text.1.damaged)) found.needed

@@ -27,7 +27,7 @@ use Rattle.wu_ask.specs.declared.Answered.TheVariants.{Export}
 use Rattle.wu_query.specs.Answer.{answer}
 use Rattle.wu_query.specs.Causes.{IsBlobOf, IsBrokenIn, IsDamagedOf, IsDamagedOver, IsDamagedText}
 use Rattle.wu_query.specs.Exporting.{held_of, shown_at}
-use Rattle.wu_query.specs.Finding.{AreFirstOf, AreTextsOf, IsCause, KeepsTexts, text_at, text_recorded}
+use Rattle.wu_query.specs.Finding.{AreFirstOf, AreTextsOf, IsCause, IsQueryCause, KeepsTexts, text_at, text_recorded}
 use Rattle.wu_query.specs.Permitted.{AreReadForQuery, ReadsSuch}
 use Rattle.wu_query.specs.Reads.{IsTextOf, ReadsInTurn, text_at_entry, text_ranges, text_of_file, texts_read}
 use Rattle.wu_query.specs.Records.{Records, record_at, record_of, records_of}
@@ -39,7 +39,7 @@ use Rattle.wu_query.proofs.FirstLines.{at_place}
 use Rattle.wu_query.proofs.FoundLines.{record_found, text_of_entry}
 use Rattle.wu_query.proofs.FramesOfView.{range_in, view_has_ranges}
 use Rattle.wu_query.proofs.PermittedBlocks.{reads_joined}
-use Rattle.wu_query.proofs.ReadCauses.{cause_after}
+use Rattle.wu_query.proofs.ReadCauses.{cause_of_query}
 use Rattle.wu_query.proofs.WrittenFiles.{is_export}
 
 -- ---- file by file
@@ -253,5 +253,5 @@ module _ (frames : Frames) (contents : Contents) (files : Records) (holds : Opti
   -- a trouble with such a text is one that the question may find
   pub cause_of_export : {before now : ℕ} {ranges ranges_now : Option (List ReadRange)} {trouble : Trouble}
       → IsCause (IsDamagedOf frames.seen files holds) before now ranges ranges_now trouble
-      → IsCause (IsDamagedOver frames Exporting contents files holds) before now ranges ranges_now trouble
-  cause_of_export cause = cause_after refl cause (λ blob damaged. inr (export_damaged blob damaged))
+      → IsQueryCause (IsDamagedOver frames Exporting contents files holds) before now ranges ranges_now trouble
+  cause_of_export cause = cause_of_query refl cause (λ read blob bytes damaged. inr (bytes, export_damaged blob damaged))

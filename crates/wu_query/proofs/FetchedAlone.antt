@@ -12,7 +12,7 @@ use Rattle.wu_parts.specs.Contents.{Contents}
 use Rattle.wu_space.specs.Addresses.{Ranges}
 use Rattle.wu_query.specs.Asked.{blocks_for, terms_asked}
 use Rattle.wu_query.specs.Causes.{IsDamagedOver}
-use Rattle.wu_query.specs.Finding.{AreTextsOf, IsCause}
+use Rattle.wu_query.specs.Finding.{AreTextsOf, IsQueryCause}
 use Rattle.wu_query.specs.Permitted.{AreReadForQuery, ReadsSuch}
 use Rattle.wu_query.specs.Reads.{ReadsInTurn, ShowsNoText}
 use Rattle.wu_query.specs.Records.{Records}
@@ -31,7 +31,7 @@ pub record OnlyFetches {D T : Type 0} (Store : stores.Ghosts D) (frames : Frames
       (AreTextsOf frames parts files (Store.holds old) question) (Store.holds old) parts.kept now.kept (Store.reads old) (Store.reads new))
   pub permitted : (live : Ranges) (s : State) (uid : ℕ) → Indexes frames live s uid → TellsPostings parts (Store.holds old) s
       → ReadsSuch (AreReadForQuery s uid question) (Store.reads old) (Store.reads new)
-  pub cause : IfErr r (IsCause (IsDamagedOver frames question parts files (Store.holds old)) (Store.faults old) (Store.faults new)
+  pub cause : IfErr r (IsQueryCause (IsDamagedOver frames question parts files (Store.holds old)) (Store.faults old) (Store.faults new)
       (Store.reads old) (Store.reads new))
 
 module _ {D T : Type 0} {Store : stores.Ghosts D} {frames : Frames} {question : Question} {files : Records} {parts now : Contents}

@@ -1,5 +1,5 @@
 -- Why a call that reads texts answers a trouble.
-use Rattle.std.proofs.Common.{◌≡◌, ℕ, List, [], ◌∷◌, ◌++◌, true, false, cond, ap, sym, ◌∙◌, subst, inl, inr}
+use Rattle.std.proofs.Common.{◌≡◌, ◌<◌, ℕ, List, [], ◌∷◌, ◌++◌, true, false, cond, ap, sym, ◌∙◌, subst, inl, inr}
 use Rattle.std.specs.Prelude.{Option, Some, Result, Ok, Err, IfErr, option_map}
 use Rattle.std.specs.Ordering.{nat_cmp}
 use Rattle.std.specs.BTreeMap.{is_at}
@@ -11,9 +11,9 @@ use Rattle.wu_outside.specs.Content.{Content}
 use Rattle.wu_outside.specs.declared.ranges.ReadRange.{ReadRange}
 use Rattle.wu_layout.proofs.KeptLemmas.{SomeOf-right}
 use Rattle.wu_image.specs.declared.records.FileRec.{FileRec}
-use Rattle.wu_query.specs.Causes.{IsBrokenIn, IsDamagedAt, WasRead}
+use Rattle.wu_query.specs.Causes.{HasBytesOf, IsBrokenIn, IsDamagedAt, WasRead}
 use Rattle.wu_query.specs.Records.{Records, record_at}
-use Rattle.wu_query.specs.Finding.{CanBeRead, IsCause}
+use Rattle.wu_query.specs.Finding.{CanBeRead, IsCause, IsQueryCause}
 use Rattle.wu_query.proofs.PermittedBlocks.{reads_joined}
 
 -- what follows for each error holds of the error of a result
@@ -40,7 +40,7 @@ read_behind : (first : Option (List ReadRange)) {middle last : Option (List Read
     → middle ≡ option_map (λ earlier. earlier ++ read) first → (blob : ℕ) → WasRead middle last blob → WasRead first last blob
 read_behind first read earlier blob later = (
   read ++ later.0,
-  SomeOf-right (λ (range : ReadRange). range.blob ≡ blob) read later.0 later.1,
+  SomeOf-right (λ (range : ReadRange). (range.blob ≡ blob) × (0 < range.len)) read later.0 later.1,
   later.2 ∙ ap (option_map (λ (ranges : List ReadRange). ranges ++ later.0)) earlier ∙ reads_joined first read later.0,
 )
 
@@ -54,6 +54,35 @@ cause_behind {first} read earlier cause = record {
   calm = cause.calm;
   damaged = cause.damaged;
   read = λ blob h. read_behind first read earlier blob (cause.read blob h);
+}
+
+-- a broken text of which bytes were read is damage that a query may find
+pub cause_of_query : {Broken : ℕ → Type 0} {IsDamaged : List ReadRange → ℕ → Type 0} {before middle now : ℕ}
+    {ranges ranges_now : Option (List ReadRange)} {trouble : Trouble}
+    → middle ≡ before → IsCause Broken middle now ranges ranges_now trouble
+    → ((read : List ReadRange) (blob : ℕ) → HasBytesOf read blob → Broken blob → IsDamaged read blob)
+    → IsQueryCause IsDamaged before now ranges ranges_now trouble
+cause_of_query same cause step =
+    rw (← same)
+    (record {
+      kept = cause.kept;
+      store_fault = cause.store_fault;
+      calm = cause.calm;
+      damaged = λ blob h.
+          let was_read = cause.read blob h in
+          (was_read.0, step was_read.0 blob was_read.1 (cause.damaged blob h), was_read.2);
+    })
+
+-- damage that a query may find is damage of another kind too
+pub query_cause : {IsDamaged Other : List ReadRange → ℕ → Type 0} {before now : ℕ} {ranges ranges_now : Option (List ReadRange)}
+    {trouble : Trouble} → IsQueryCause IsDamaged before now ranges ranges_now trouble
+    → ((read : List ReadRange) (blob : ℕ) → IsDamaged read blob → Other read blob)
+    → IsQueryCause Other before now ranges ranges_now trouble
+query_cause cause step = record {
+  kept = cause.kept;
+  store_fault = cause.store_fault;
+  calm = cause.calm;
+  damaged = λ blob h. let found = cause.damaged blob h in (found.0, step found.0 blob found.1, found.2);
 }
 
 -- ---- the record of a file

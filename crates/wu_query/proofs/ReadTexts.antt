@@ -1,5 +1,5 @@
 -- How many tokens the empty text has, and that a text of another size or another number of tokens than recorded is broken.
-use Rattle.std.proofs.Common.{◌≡◌, ◌≢◌, ◌==◌, ◌<◌, ◌≤◌, ℕ, List, [], ◌∷◌, ◌++◌, true, length, take, refl, ap, sym, ◌∙◌, subst, inl, inr}
+use Rattle.std.proofs.Common.{◌≡◌, ◌≢◌, ◌==◌, ◌<◌, ◌≤◌, ℕ, zero, suc, List, [], ◌∷◌, ◌++◌, true, length, take, refl, ap, sym, ◌∙◌, subst, inl, inr}
 use Rattle.std.proofs.Common.{arith, length-append}
 use Rattle.std.specs.Prelude.{Option, Some, None, IfSome, option_map}
 use Rattle.std.specs.List.{flat_map}
@@ -43,6 +43,14 @@ empty_exact file is none some =
       length-tokens_of [],
     )
 
+-- a text that is in a blob has bytes
+bytes_stored : (blob len : ℕ) → (blob == 0) ≡ (len == 0) → 0 < blob → 0 < len
+bytes_stored blob zero stored some = let none : blob ≡ 0 = eqb-true blob 0 stored in absurd (omega (arith, none, some))
+bytes_stored blob (suc len) stored some = omega arith
+
+pub has_bytes : (file : FileRec) → IsRecord (file.ino, file) → 0 < file.blob → 0 < file.len
+has_bytes file is some = bytes_stored file.blob file.len is.stored some
+
 -- it was read whole, in one read, and then these ranges
 abbrev pub IsReadThen : FileRec → List ReadRange → Option (List ReadRange) → Option (List ReadRange) → Type 0
 IsReadThen file later ranges ranges_now = ranges_now ≡ option_map (λ rs. rs ++ record { blob = file.blob; at = 0; len = file.len } ∷ later) ranges
@@ -58,9 +66,9 @@ read_asked file first next last is_read asked =
 -- a broken text that was read, whose blob is told
 broken_cause : (holds : Option Content) (file : FileRec) (later : List ReadRange) (before now : ℕ)
     {ranges ranges_now : Option (List ReadRange)} (trouble : Trouble)
-    → 0 < file.blob → IfSome holds (λ content. IsBrokenText file (content.blobs file.blob)) → trouble ≡ Damaged file.blob
+    → 0 < file.blob → 0 < file.len → IfSome holds (λ content. IsBrokenText file (content.blobs file.blob)) → trouble ≡ Damaged file.blob
     → now ≡ before → IsReadThen file later ranges ranges_now → IsCause (IsBrokenIn holds file) before now ranges ranges_now trouble
-broken_cause holds file later before now {ranges} {ranges_now} trouble some broken is same is_read = record {
+broken_cause holds file later before now {ranges} {ranges_now} trouble some bytes broken is same is_read = record {
   kept = omega (arith, same);
   store_fault = λ e. absurd (cc (e, is));
   calm = λ _. same;
@@ -72,17 +80,18 @@ broken_cause holds file later before now {ranges} {ranges_now} trouble some brok
   read = λ blob e.
       let told : Damaged file.blob ≡ Damaged blob = sym is ∙ e in
       let its : file.blob ≡ blob = cc in
-      subst (WasRead ranges ranges_now) its (record { blob = file.blob; at = 0; len = file.len } ∷ later, inl refl, is_read);
+      subst (WasRead ranges ranges_now) its
+      (record { blob = file.blob; at = 0; len = file.len } ∷ later, inl (refl, bytes), is_read);
 }
 
 -- not all of it was there to be read
 pub count_cause : (holds : Option Content) (file : FileRec) (count : Option ℕ) (buffer : List ℕ) (before now : ℕ)
-    {ranges ranges_now : Option (List ReadRange)} (trouble : Trouble) → 0 < file.blob
+    {ranges ranges_now : Option (List ReadRange)} (trouble : Trouble) → 0 < file.blob → 0 < file.len
     → IfSome holds (λ content. ReadsFrom (content.blobs file.blob) 0 count buffer) → length buffer ≡ file.len
     → trouble ≡ Damaged file.blob → count ≢ Some file.len → now ≡ before → IsReadThen file [] ranges ranges_now
     → IsCause (IsBrokenIn holds file) before now ranges ranges_now trouble
-count_cause holds file count buffer before now trouble some told whole is other same is_read =
-    broken_cause holds file [] before now trouble some (broken holds told) is same is_read
+count_cause holds file count buffer before now trouble some some_bytes told whole is other same is_read =
+    broken_cause holds file [] before now trouble some some_bytes (broken holds told) is same is_read
   where
     of_count : (held : Option (List ℕ)) → ReadsFrom held 0 count buffer → IsBrokenText file held
     of_count None e = tt
@@ -98,11 +107,11 @@ count_cause holds file count buffer before now trouble some told whole is other 
 
 -- it is of another size than recorded
 pub size_cause : (holds : Option Content) (file : FileRec) (size : Option ℕ) (before now : ℕ) {ranges ranges_now : Option (List ReadRange)}
-    (trouble : Trouble) → 0 < file.blob → IfSome holds (λ content. size ≡ option_map length (content.blobs file.blob))
+    (trouble : Trouble) → 0 < file.blob → 0 < file.len → IfSome holds (λ content. size ≡ option_map length (content.blobs file.blob))
     → (trouble ≡ Damaged file.blob) × (size ≢ Some file.len) → now ≡ before → IsReadThen file (asked_size file.blob ∷ []) ranges ranges_now
     → IsCause (IsBrokenIn holds file) before now ranges ranges_now trouble
-size_cause holds file size before now trouble some told other same is_read =
-    broken_cause holds file (asked_size file.blob ∷ []) before now trouble some (broken holds told) other.0 same is_read
+size_cause holds file size before now trouble some some_bytes told other same is_read =
+    broken_cause holds file (asked_size file.blob ∷ []) before now trouble some some_bytes (broken holds told) other.0 same is_read
   where
     of_size : (held : Option (List ℕ)) → size ≡ option_map length held → IsBrokenText file held
     of_size None e = tt
@@ -115,11 +124,11 @@ size_cause holds file size before now trouble some told other same is_read =
 
 -- it has another number of tokens
 pub tokens_cause : (holds : Option Content) (file : FileRec) (text : List ℕ) (before now : ℕ) {ranges ranges_now : Option (List ReadRange)}
-    (trouble : Trouble) → 0 < file.blob → IfSome holds (λ content. content.blobs file.blob ≡ Some text)
+    (trouble : Trouble) → 0 < file.blob → 0 < file.len → IfSome holds (λ content. content.blobs file.blob ≡ Some text)
     → (trouble ≡ Damaged file.blob) × (length (tokens_of text) ≢ file.range.len) → now ≡ before
     → IsReadThen file (asked_size file.blob ∷ []) ranges ranges_now → IsCause (IsBrokenIn holds file) before now ranges ranges_now trouble
-tokens_cause holds file text before now trouble some held other same is_read =
-    broken_cause holds file (asked_size file.blob ∷ []) before now trouble some (broken holds held) other.0 same is_read
+tokens_cause holds file text before now trouble some some_bytes held other same is_read =
+    broken_cause holds file (asked_size file.blob ∷ []) before now trouble some some_bytes (broken holds held) other.0 same is_read
   where
     broken : (told : Option Content) → IfSome told (λ content. content.blobs file.blob ≡ Some text)
         → IfSome told (λ content. IsBrokenText file (content.blobs file.blob))

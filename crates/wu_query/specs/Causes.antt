@@ -17,7 +17,7 @@ use Rattle.wu_parts.specs.Causes.{IsBrokenPart}
 use Rattle.wu_parts.specs.Contents.{Contents}
 use Rattle.wu_parts.specs.Candidates.{terms_held}
 use Rattle.wu_query.specs.Asked.{blocks_read, terms_asked}
-use Rattle.wu_query.specs.Permitted.{ReadsSuch}
+use Rattle.wu_query.specs.Permitted.{IsOneOf, ReadsSuch}
 use Rattle.wu_query.specs.Reads.{ShowsNoText, texts_read}
 use Rattle.wu_query.specs.Records.{Records, record_at, records_of}
 use Rattle.wu_query.specs.Searched.{Indexes, TellsPostings}
@@ -48,14 +48,22 @@ IsDamagedIn files contents holds blob =
 abbrev pub IsBlobOf : List ReadRange → ℕ → Type 0
 IsBlobOf ranges blob = SomeOf (λ range. range.blob ≡ blob) ranges
 
--- where the store tells its reads, one of the ranges that were read in the call is in that blob
-abbrev pub WasRead : Option (List ReadRange) → Option (List ReadRange) → ℕ → Type 0
-WasRead before after blob = ReadsSuch (λ read. IsBlobOf read blob) before after
+-- one of these ranges is in that blob and has bytes: where only the size of a blob was asked, the range has none
+abbrev pub HasBytesOf : List ReadRange → ℕ → Type 0
+HasBytesOf ranges blob = SomeOf (λ range. (range.blob ≡ blob) × (0 < range.len)) ranges
 
--- A part is in that blob, of which one of these blocks is, and what the store tells of it is no part with the directory that is kept.
-abbrev pub IsDamagedPart : List Block → Contents → Option Content → ℕ → Type 0
-IsDamagedPart blocks contents holds blob =
-    SomeOf (λ block. block.blob ≡ blob) blocks × SomeOf (IsBrokenPart holds blob) (zip contents.parts contents.directories)
+-- one of these ranges is in that blob and is where one of these blocks is
+abbrev pub HasBlockOf : List Block → List ReadRange → ℕ → Type 0
+HasBlockOf blocks ranges blob = SomeOf (λ range. (range.blob ≡ blob) × IsOneOf blocks range) ranges
+
+-- where the store tells its reads, bytes of that blob were read in the call
+abbrev pub WasRead : Option (List ReadRange) → Option (List ReadRange) → ℕ → Type 0
+WasRead before after blob = ReadsSuch (λ read. HasBytesOf read blob) before after
+
+-- A part is in that blob, of which one of these blocks was read, and what the store tells of it is no part with the directory that is kept.
+abbrev pub IsDamagedPart : List Block → Contents → Option Content → List ReadRange → ℕ → Type 0
+IsDamagedPart blocks contents holds read blob =
+    HasBlockOf blocks read blob × SomeOf (IsBrokenPart holds blob) (zip contents.parts contents.directories)
 
 -- A text of a file of the frames' user is broken in that blob, and the question has texts shown. Where frames, postings and records are
 -- those of a state, it is the text of a file that is exported or of which a line is shown.
@@ -66,15 +74,16 @@ pub record IsDamagedText (frames : Frames) (question : Question) (contents : Con
   pub shown : (live : Ranges) (s : State) (uid : ℕ) → Indexes frames live s uid → TellsPostings contents holds s
       → files ≡ records_of s.texts s.layout.files → IsBlobOf (texts_read s uid question) blob
 
--- Such a text, or a part of which a block was to be read that the frames need of the question's terms.
-abbrev pub IsDamagedOver : Frames → Question → Contents → Records → Option Content → ℕ → Type 0
-IsDamagedOver frames question contents files holds blob =
-    IsDamagedPart (blocks_read contents frames.ranges (terms_asked (terms_held contents) question)) contents holds blob
-    ⊎ IsDamagedText frames question contents files holds blob
+-- Where these ranges were read, it is such a text, of which bytes were, or a part of which a block was that the frames need of the
+-- question's terms.
+abbrev pub IsDamagedOver : Frames → Question → Contents → Records → Option Content → List ReadRange → ℕ → Type 0
+IsDamagedOver frames question contents files holds read blob =
+    IsDamagedPart (blocks_read contents frames.ranges (terms_asked (terms_held contents) question)) contents holds read blob
+    ⊎ (HasBytesOf read blob × IsDamagedText frames question contents files holds blob)
 
 -- Over the user's frames, for that tree and those live ranges.
 pub record IsDamagedFor (fs : FileSystem) (live : Ranges) (uid : ℕ) (question : Question) (contents : Contents) (files : Records)
-    (holds : Option Content) (blob : ℕ) : Type 0 where
+    (holds : Option Content) (read : List ReadRange) (blob : ℕ) : Type 0 where
   pub frames : Frames
   pub hers : AreFrames fs live uid frames
-  pub needed : IsDamagedOver frames question contents files holds blob
+  pub needed : IsDamagedOver frames question contents files holds read blob

@@ -23,6 +23,7 @@ use Rattle.wu_solve.specs.Solving.{frame_hits}
 use Rattle.wu_view.specs.declared.Seen.{Seen}
 use Rattle.wu_query.specs.Answer.{found_line}
 use Rattle.wu_query.specs.Causes.{IsBlobOf, IsDamagedOf, WasRead}
+use Rattle.wu_query.specs.Permitted.{ReadsSuch}
 use Rattle.wu_query.specs.Reads.{AreTexts, texts_read, texts_shown, whole_text}
 use Rattle.wu_query.specs.Records.{Records, record_at, records_of}
 use Rattle.wu_query.specs.Soundness.{IsRecord}
@@ -104,14 +105,22 @@ abbrev pub IsBrokenShown : Records → Option Content → Region → List TermLi
 IsBrokenShown files holds region lists lines view blob =
     IsBlobOf (texts_shown (hits_at files region lists) (text_at files) lines view) blob × IsDamagedOf view files holds blob
 
--- Why a call that reads of the store answers a trouble: a store fault only where the count of faults rose, which else is as it was, and
--- a damaged blob only where that blob is broken and was read in the call.
+-- Why a call that reads texts of the store answers a trouble: a store fault only where the count of faults rose, which else is as it was,
+-- and a damaged blob only where that blob is broken and bytes of it were read in the call.
 pub record IsCause (Broken : ℕ → Type 0) (before now : ℕ) (ranges ranges_now : Option (List ReadRange)) (trouble : Trouble) : Type 0 where
   pub kept : before ≤ now
   pub store_fault : trouble ≡ StoreFault → Rose before now
   pub calm : trouble ≢ StoreFault → now ≡ before
   pub damaged : (blob : ℕ) → trouble ≡ Damaged blob → Broken blob
   pub read : (blob : ℕ) → trouble ≡ Damaged blob → WasRead ranges ranges_now blob
+
+-- Why a query does, which reads blocks too: the same of faults, and a damaged blob only where it is damaged so by what was read in the call.
+pub record IsQueryCause (IsDamaged : List ReadRange → ℕ → Type 0) (before now : ℕ) (ranges ranges_now : Option (List ReadRange))
+    (trouble : Trouble) : Type 0 where
+  pub kept : before ≤ now
+  pub store_fault : trouble ≡ StoreFault → Rose before now
+  pub calm : trouble ≢ StoreFault → now ≡ before
+  pub damaged : (blob : ℕ) → trouble ≡ Damaged blob → ReadsSuch (λ read. IsDamaged read blob) ranges ranges_now
 
 -- ---- the state
 

@@ -11,7 +11,7 @@ ghost use Rattle.wu_space.specs.Addresses.{Ranges};
 ghost use Rattle.wu_query.specs.Answer.{answer, found_line};
 ghost use Rattle.wu_query.specs.Asked.{blocks_for, terms_of as named_in};
 ghost use Rattle.wu_query.specs.Causes.{IsBrokenIn, IsDamagedOver};
-ghost use Rattle.wu_query.specs.Finding.{AreFirstOf, AreTextsOf, CanBeRead, IsBelow, IsCause, KeepsTexts, counted_from, extents_of, hits_at, lines_at, lines_of_record, looked_through, text_at, IsBrokenShown};
+ghost use Rattle.wu_query.specs.Finding.{AreFirstOf, AreTextsOf, CanBeRead, IsBelow, IsCause, IsQueryCause, KeepsTexts, counted_from, extents_of, hits_at, lines_at, lines_of_record, looked_through, text_at, IsBrokenShown};
 ghost use Rattle.wu_query.specs.Permitted.{AreReadForQuery, ReadsSuch};
 ghost use Rattle.wu_query.specs.Reads.{HasWholeText, IsTextOf, ReadsInTurn, texts_shown, whole_text};
 ghost use Rattle.wu_query.specs.States.{State};
@@ -63,8 +63,8 @@ pub fn find<D: Store>(
         → ReadsSuch (AreReadForQuery s uid (AskedFinding k (region_of expr.now))) (D.reads store.old) (D.reads store.new) }
     ensures others { parts.new ≡ record parts.old { kept = parts.new.kept } }
     ensures store { OnlyReads D.Store store.old store.new result }
-    ensures cause { IfErr result (IsCause (IsDamagedOver frames.now (AskedFinding k (region_of expr.now)) parts.old files.now.entries
-        (D.holds store.old)) (D.faults store.old) (D.faults store.new) (D.reads store.old) (D.reads store.new)) }
+    ensures cause { IfErr result (IsQueryCause (IsDamagedOver frames.now (AskedFinding k (region_of expr.now)) parts.old
+        files.now.entries (D.holds store.old)) (D.faults store.old) (D.faults store.new) (D.reads store.old) (D.reads store.new)) }
 {
     let terms = terms_of(alloc, expr)?;
     let lists = lists_of(alloc, store, &terms, frames, parts)?;

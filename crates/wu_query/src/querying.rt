@@ -8,7 +8,7 @@ ghost use Rattle.wu_parts.specs.Candidates.{terms_held};
 ghost use Rattle.wu_query.specs.Answer.{answer};
 ghost use Rattle.wu_query.specs.Asked.{blocks_for, terms_asked};
 ghost use Rattle.wu_query.specs.Causes.{IsDamagedFor, IsDamagedOver};
-ghost use Rattle.wu_query.specs.Finding.{AreTextsOf, CanBeRead, IsCause, KeepsTexts};
+ghost use Rattle.wu_query.specs.Finding.{AreTextsOf, CanBeRead, IsQueryCause, KeepsTexts};
 ghost use Rattle.wu_query.specs.Permitted.{AreReadForQuery, ReadsSuch};
 ghost use Rattle.wu_query.specs.Reads.{AreTexts, ReadsForQuery, ReadsInTurn, texts_read};
 ghost use Rattle.wu_query.specs.Soundness.{IsSound};
@@ -63,7 +63,7 @@ pub fn answered<D: Store>(
     ensures others { parts.new ≡ record parts.old { kept = parts.new.kept } }
     ensures frames { OnOk result (HasAsked query.now.uid kept.old kept.new) }
     ensures store { OnlyReads D.Store store.old store.new result }
-    ensures cause { IfErr result (IsCause (IsDamagedFor tree.now space.now.ranges query.now.uid (question_of query.now.ask)
+    ensures cause { IfErr result (IsQueryCause (IsDamagedFor tree.now space.now.ranges query.now.uid (question_of query.now.ask)
         parts.old files.now.entries (D.holds store.old))
         (D.faults store.old) (D.faults store.new) (D.reads store.old) (D.reads store.new)) }
 {
@@ -100,7 +100,7 @@ fn answer<D: Store>(
         → ReadsSuch (AreReadForQuery s uid (question_of ask.now)) (D.reads store.old) (D.reads store.new) }
     ensures others { parts.new ≡ record parts.old { kept = parts.new.kept } }
     ensures store { OnlyReads D.Store store.old store.new result }
-    ensures cause { IfErr result (IsCause (IsDamagedOver frames.now (question_of ask.now) parts.old files.now.entries (D.holds store.old))
+    ensures cause { IfErr result (IsQueryCause (IsDamagedOver frames.now (question_of ask.now) parts.old files.now.entries (D.holds store.old))
         (D.faults store.old) (D.faults store.new) (D.reads store.old) (D.reads store.new)) }
 {
     match ask {

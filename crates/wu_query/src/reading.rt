@@ -58,7 +58,8 @@ fn check_tokens(text: &[u8], file: &FileRec) -> Result<(), Trouble>
 /// The blob of the recorded text, which has the recorded length. Its size is asked after the read, so that no
 /// blob is called damaged unread.
 fn read_blob<D: Store>(alloc: Global, store: &mut D, file: &FileRec) -> Result<Vec<u8>, Trouble>
-    requires { 0 < file.now.blob }
+    requires stored { 0 < file.now.blob }
+    requires bytes { 0 < file.now.len }
     ensures text { IfOk result (λ text. IfSome (D.holds store.old) (λ content. content.blobs file.now.blob ≡ Some text.items)) }
     ensures len { IfOk result (λ text. length text.items ≡ file.now.len) }
     ensures store { OnlyReads D.Store store.old store.new result }

@@ -4,7 +4,7 @@ use Rattle.wu_ask.specs.Questions.{question_of}
 use Rattle.wu_frames.proofs.Keeping.{right-found}
 use Rattle.wu_query.proofs.AnswerLemmas.{if_ok}
 use Rattle.wu_query.proofs.QueryReads.{cause_of_memory, no_memory, reads_for}
-use Rattle.wu_query.proofs.ReadCauses.{cause_after, if_err}
+use Rattle.wu_query.proofs.ReadCauses.{if_err, query_cause}
 use Rattle.wu_query.proofs.Searching.{can_be_read, can_be_searched, sound_prepared}
 use Rattle.wu_query.proofs.querying.answered.Goals as goal
 
@@ -71,7 +71,7 @@ returns-in-Some-clause-cause g c =
     let hers = right-found c.args.tree.now c.args.space.now.ranges c.args.query.now.uid c.prepare.new.self frames
     c.prepare.ensures.right c.in-Some.ensures in
     if_err c.answer.result c.answer.ensures.cause
-    (λ trouble cause. cause_after refl cause (λ blob needed. record { frames = frames; hers = hers; needed = needed }))
+    (λ trouble cause. query_cause cause (λ read blob needed. record { frames = frames; hers = hers; needed = needed }))
 
 pub returns-in_err-prepare-clause-cause : goal.returns-in_err-prepare-clause-cause
 returns-in_err-prepare-clause-cause g c = cause_of_memory c.from_residual.result _ _ _ refl c.from_residual.ensures.1

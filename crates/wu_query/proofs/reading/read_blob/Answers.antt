@@ -1,5 +1,4 @@
-use Rattle.std.proofs.Common.{◌≡◌, ◌∙◌, [], ◌∷◌, ◌++◌, refl, rules}
-use Rattle.std.specs.Prelude.{option_map}
+use Rattle.std.proofs.Common.{◌∙◌, [], ◌∷◌, refl, rules}
 use Rattle.wu_outside.specs.Ranges.{asked_size}
 use Rattle.wu_query.proofs.PassedCauses.{err_from}
 use Rattle.wu_query.proofs.PermittedTexts.{all_read}
@@ -46,7 +45,7 @@ pub returns-in_err-check_count-clause-cause : goal.returns-in_err-check_count-cl
 returns-in_err-check_count-clause-cause g c =
     err_from _ c.from_residual-in_err-check_count.result c.in_err-check_count.field-0.0 c.from_residual-in_err-check_count.ensures.1
     (count_cause (g.D.Store.holds c.args.store.now) c.args.file.now c.in_ok-count.count c.read.new.buf (g.D.Store.faults c.args.store.now)
-    (g.D.Store.faults c.read.new.self) c.in_err-check_count.field-0.0 c.requires c.in_ok-count.ensures.bytes (search rules)
+    (g.D.Store.faults c.read.new.self) c.in_err-check_count.field-0.0 c.requires.stored c.requires.bytes c.in_ok-count.ensures.bytes (search rules)
     c.in_err-check_count.ensures.damaged.0 c.in_err-check_count.ensures.damaged.1 c.in_ok-count.ensures.cause.calm (search rules))
 
 pub returns-in_err-check_size-clause-cause : goal.returns-in_err-check_size-clause-cause
@@ -55,7 +54,7 @@ returns-in_err-check_size-clause-cause g c =
     let is_read : IsReadThen file [] (g.D.Store.reads c.args.store.now) (g.D.Store.reads c.read.new.self) = search rules in
     err_from _ c.from_residual-in_err-check_size.result c.in_err-check_size.field-0.0 c.from_residual-in_err-check_size.ensures.1
     (size_cause (g.D.Store.holds c.args.store.now) file c.in_ok-size.size (g.D.Store.faults c.args.store.now)
-    (g.D.Store.faults c.size.new.self) c.in_err-check_size.field-0.0 c.requires (rw c.read.ensures.same at c.in_ok-size.ensures.size)
-    c.in_err-check_size.ensures.damaged (c.in_ok-size.ensures.cause.calm ∙ c.in_ok-count.ensures.cause.calm)
+    (g.D.Store.faults c.size.new.self) c.in_err-check_size.field-0.0 c.requires.stored c.requires.bytes
+    (rw c.read.ensures.same at c.in_ok-size.ensures.size) c.in_err-check_size.ensures.damaged (c.in_ok-size.ensures.cause.calm ∙ c.in_ok-count.ensures.cause.calm)
     (read_asked file (g.D.Store.reads c.args.store.now) (g.D.Store.reads c.read.new.self) (g.D.Store.reads c.size.new.self) is_read
     c.in_ok-size.ensures.noted))
