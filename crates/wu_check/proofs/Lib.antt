@@ -1,14 +1,17 @@
+pub mod AddressOrder
 pub mod CheckedStores
 pub mod ComparedFiles
 pub mod ComparedTexts
 pub mod ComparedTokens
 pub mod DistinctNumbers
+pub mod FileEntries
 pub mod FirstLemmas
 pub mod IndexedParts
 pub mod ListPostings
 pub mod NumberLemmas
 pub mod NumberedLists
 pub mod OneFinding
+pub mod OneState
 pub mod OwnCheckpoints
 pub mod PartDirectories
 pub mod PartLists
@@ -18,6 +21,8 @@ pub mod ReadLists
 pub mod SoundImages
 pub mod SoundParts
 pub mod SoundPostings
+pub mod SoundStates
+pub mod StandingTexts
 pub mod StoredImages
 pub mod ToldContents
 pub mod Walks

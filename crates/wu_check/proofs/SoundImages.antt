@@ -39,7 +39,7 @@ use Rattle.wu_check.specs.Wrong.{AreSoundTexts, HasTokens, IsSound, IsSoundPart,
 
 -- ---- the terms of postings
 
-term_at : (postings : List Posting) (posting : Posting) → Has posting postings
+pub term_at : (postings : List Posting) (posting : Posting) → Has posting postings
     → HaveTermAt (lists_of postings) posting.address posting.term
 term_at postings posting has = among (terms_of postings) known
   where
@@ -85,7 +85,7 @@ empty_text [] none = refl
 empty_text (byte ∷ text) none = absurd (omega (arith, none))
 
 module _ (content : Content) (texts : Texts) where
-  text_there : (entry : ℕ × FileEntry) (file : FileRec) → HoldsText content texts entry file → (file.blob ≡ 0 → file.len ≡ 0)
+  pub text_there : (entry : ℕ × FileEntry) (file : FileRec) → HoldsText content texts entry file → (file.blob ≡ 0 → file.len ≡ 0)
       → text_held content file ≡ text_of texts entry.0
   text_there entry file h empty =
       ⊎_elim

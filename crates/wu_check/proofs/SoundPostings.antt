@@ -165,7 +165,7 @@ past_head r p q ps qs high a e i g =
     (λ j. j)
     g
 
-same_postings : (low high from end : ℕ) (ps qs : List Posting) → Ascend low high ps → Ascend from end qs
+pub same_postings : (low high from end : ℕ) (ps qs : List Posting) → Ascend low high ps → Ascend from end qs
     → ((p : Posting) → Has p ps → Has p qs) → ((p : Posting) → Has p qs → Has p ps) → ps ≡ qs
 same_postings low high from end [] [] a b f g = refl
 same_postings low high from end [] (q ∷ qs) a b f g = absurd (g q (inl refl))

@@ -8,7 +8,7 @@ ghost use Rattle.wu_token.specs.Tokens.{tokens_of};
 ghost use Rattle.wu_tree.specs.FileSystems.{FileSystem};
 ghost use Rattle.wu_image.specs.Images.{IsImage, Texts, text_held};
 ghost use Rattle.wu_image.specs.declared.records.FileRec.{FileRec};
-ghost use Rattle.wu_check.specs.Imaged.{HasPostings, IndexesTexts, counts_in};
+ghost use Rattle.wu_check.specs.Imaged.{AreOfOneState, HasPostings, IndexesTexts, counts_in};
 ghost use Rattle.wu_check.specs.Wrong.{IsChecked, IsSound, IsSoundPart};
 ghost use Rattle.wu_check.specs.declared.checking.Checked.{Checked};
 
@@ -38,11 +38,22 @@ pub fn a_part_has_its_postings()
         → (part : Part) × HasPostings content files recorded part }
 {}
 
-/// A law: a sound store is an image of a tree, of texts and of a layout, and what is counted is
-/// what the layout has. They are what the checkpoint records and the blobs hold; without a root,
-/// they are empty.
+/// A law: a sound store is an image of a tree, of texts and of a layout of one state, and what is
+/// counted is what the layout has. They are what the checkpoint records and the blobs hold; without
+/// a root, they are empty.
 pub fn a_sound_store_is_an_image()
     ensures { (content : Content) (counts : Checked) → IsSound content counts
         → (tree : FileSystem) × (texts : Texts) × (layout : Layout)
-        × IsImage content tree texts layout × (counts ≡ counts_in layout) }
+        × IsImage content tree texts layout × AreOfOneState tree texts layout
+        × (counts ≡ counts_in layout) }
+{}
+
+/// A law: a store is an image of one state alone. Of two trees, each with the texts and the layout
+/// of one state, of which a content is an image, neither differs from the other.
+pub fn an_image_is_of_one_state()
+    ensures { (content : Content) (tree other_tree : FileSystem) (texts other_texts : Texts)
+        (layout other_layout : Layout) → AreOfOneState tree texts layout
+        → AreOfOneState other_tree other_texts other_layout → IsImage content tree texts layout
+        → IsImage content other_tree other_texts other_layout
+        → (tree ≡ other_tree) × (texts ≡ other_texts) × (layout ≡ other_layout) }
 {}

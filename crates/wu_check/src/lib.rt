@@ -24,5 +24,6 @@ pub use comparing::{Compared, compare, compare_text};
 pub use directories::directory_in;
 pub use indexing::{PartIndex, addresses_of, index_part};
 pub use laws::{
-    a_part_has_its_postings, a_sound_store_is_an_image, a_store_has_one_finding, an_image_is_sound,
+    a_part_has_its_postings, a_sound_store_is_an_image, a_store_has_one_finding,
+    an_image_is_of_one_state, an_image_is_sound,
 };

@@ -1,4 +1,4 @@
-use Rattle.wu_check.proofs.StoredImages.{image_of_sound}
+use Rattle.wu_check.proofs.SoundStates.{image_of_sound}
 use Rattle.wu_check.proofs.laws.a_sound_store_is_an_image.Goals as goal
 
 pub returns : goal.returns
