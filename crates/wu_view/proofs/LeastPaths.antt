@@ -26,7 +26,7 @@ use Rattle.wu_view.proofs.LinkPaths.{some_link, linked_once, link_facts, depth_r
 use Rattle.wu_view.proofs.ShownFiles.{seen_exact, seen_total, opened_paths, unsorted, has_seen}
 
 -- ---- the last name of a path
-abbrev Slashless : List ℕ → Type 0
+abbrev pub Slashless : List ℕ → Type 0
 Slashless name = AllByRecursion (λ b. b ≢ 47) name
 
 slashless : (name : List ℕ) → are_name_bytes name ≡ true → Slashless name
@@ -37,11 +37,11 @@ slashless (b ∷ name) h =
     (λ e. let f : not true ≡ true = rw (eq-eqb b 47 e) at c.0 in absurd cc, slashless name a.1)
 
 -- a slash stands in what ends in a slash and a name
-slash_within : (p name : List ℕ) → Slashless (p ++ 47 ∷ name) → ⊥
+pub slash_within : (p name : List ℕ) → Slashless (p ++ 47 ∷ name) → ⊥
 slash_within [] name h = h.0 refl
 slash_within (x ∷ p) name h = slash_within p name h.1
 
-last_name : (p q n m : List ℕ) → Slashless n → Slashless m → p ++ 47 ∷ n ≡ q ++ 47 ∷ m → (p ≡ q) × (n ≡ m)
+pub last_name : (p q n m : List ℕ) → Slashless n → Slashless m → p ++ 47 ∷ n ≡ q ++ 47 ∷ m → (p ≡ q) × (n ≡ m)
 last_name [] [] n m a b h = (refl, cc)
 last_name [] (y ∷ q) n m a b h = let e : n ≡ q ++ 47 ∷ m = cc in absurd (slash_within q m (subst (λ (l : List ℕ). Slashless l) e a))
 last_name (x ∷ p) [] n m a b h = let e : p ++ 47 ∷ n ≡ m = cc in absurd (slash_within p n (subst (λ (l : List ℕ). Slashless l) (sym e) b))
@@ -67,7 +67,7 @@ later_place l k links a h e =
     in_keys [] a h = absurd h
     in_keys (x ∷ ls) a h = ⊎_elim (λ e. subst (λ (y : Link). place_cmp l.0 y.0 ≡ Less) e a.0) (λ i. in_keys ls a.1 i) h
 
-same_place : (l k : Link) (links : List Link) → IsStrictlySortedBy place_cmp (keys_of links) → Has l links → Has k links → l.0 ≡ k.0
+pub same_place : (l k : Link) (links : List Link) → IsStrictlySortedBy place_cmp (keys_of links) → Has l links → Has k links → l.0 ≡ k.0
     → l.1 ≡ k.1
 unfolding IsStrictlySortedBy
 same_place l k [] s h g e = absurd h
@@ -84,7 +84,7 @@ same_place l k (x ∷ links) s h g e =
     h
 
 module _ (fs : FileSystem) (t : IsTree fs) where
-  name_slashless : (link : Link) → Has link fs.links → Slashless link.0.1
+  pub name_slashless : (link : Link) → Has link fs.links → Slashless link.0.1
   name_slashless link h =
       let n = (link_facts fs t link h).name in
       let a = and_parts (is_name_length link.0.1 && are_name_bytes link.0.1) (not (is_dots link.0.1)) n in
@@ -159,7 +159,7 @@ module _ (fs : FileSystem) (t : IsTree fs) where
       same_place l k fs.links t.links_ascend h g (place_is l k same c.1)
 
 -- ---- the order of a view
-first_has : (paths : List (List ℕ)) → (path : List ℕ) → Has path paths → Has (first_of paths) paths
+pub first_has : (paths : List (List ℕ)) → (path : List ℕ) → Has path paths → Has (first_of paths) paths
 first_has [] path h = absurd h
 first_has (p ∷ paths) path h = inl refl
 

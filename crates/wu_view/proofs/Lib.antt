@@ -4,3 +4,8 @@ pub mod OpenWalks
 pub mod ShownFiles
 pub mod LeastPaths
 pub mod PathResolution
+pub mod PathOrder
+pub mod FirstPaths
+pub mod OrderedEntries
+pub mod FilesInOrder
+pub mod KeptPaths

@@ -84,7 +84,7 @@ has_entry : (link : Link) (links : List Link) → Has link links → Has (link.0
 has_entry link links h = Has-map (λ (l : Link). (l.0.1, l.1)) link (filter (λ l. l.0.0 == link.0.0) links)
     (Has-filter (λ l. l.0.0 == link.0.0) link links h (eq-eqb link.0.0 link.0.0 refl))
 
-entry_has : (entry : List ℕ × ℕ) (links : List Link) (directory : ℕ) → Has entry (entries_of links directory)
+pub entry_has : (entry : List ℕ × ℕ) (links : List Link) (directory : ℕ) → Has entry (entries_of links directory)
     → Has ((directory, entry.0), entry.1) links
 entry_has entry links directory h =
     let r = map_has (λ (l : Link). (l.0.1, l.1)) entry (filter (λ l. l.0.0 == directory) links) h in

@@ -109,13 +109,13 @@ module _ (fs : FileSystem) (t : IsTree fs) (user : UserRec) where
       let b = and_parts (m.0.1 == q) (is_open fs user m.0.0.0) f.1 in
       (m.0, f.0, eqb-true m.0.1 q b.0, b.1, m.1.1)
 
-  path_opened : (q : ℕ) (path : List ℕ) → Has (q, path) (walked_whole fs user) → Has path (opened_paths q) × (is_readable fs user q ≡ true)
+  pub path_opened : (q : ℕ) (path : List ℕ) → Has (q, path) (walked_whole fs user) → Has path (opened_paths q) × (is_readable fs user q ≡ true)
   path_opened q path h =
       let o = opened_found fs t user (q, path) h in
       let i = o.1 in
       (subst (λ (p : List ℕ). Has p (opened_paths q)) i.path (opened_has q o.0 i.within i.file i.opened), i.readable)
 
-  opened_path : (q : ℕ) (path : List ℕ) → is_readable fs user q ≡ true → Has path (opened_paths q) → Has (q, path) (walked_whole fs user)
+  pub opened_path : (q : ℕ) (path : List ℕ) → is_readable fs user q ≡ true → Has path (opened_paths q) → Has (q, path) (walked_whole fs user)
   opened_path q path r h =
       let o = has_opened q path h in
       found_opened fs t user (q, path) (o.0, record { within = o.1; file = o.2; readable = r; opened = o.3; path = o.4 })

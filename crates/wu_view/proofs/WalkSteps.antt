@@ -1,9 +1,11 @@
 -- How a walk goes on.
 use Rattle.std.proofs.Common.{◌≡◌, ℕ, zero, suc, ◌-◌, ◌<◌, List, [], ◌∷◌, refl, ap, arith, Bor, Vec, Global}
 use Rattle.std.specs.Prelude.{map}
+use Rattle.std.specs.List.{flat_map}
 use Rattle.std.specs.Map.Iter.{deref_pair}
 use Rattle.wu_access.specs.declared.UserRec.{UserRec}
 use Rattle.wu_tree.specs.FileSystems.{FileSystem, entries_of}
+use Rattle.wu_view.specs.OrderedWalks.{entries_in_order, found_by, ordered}
 use Rattle.wu_view.specs.Walks.{found_in, walked}
 
 module _ (fs : FileSystem) (user : UserRec) where
@@ -22,6 +24,19 @@ module _ (fs : FileSystem) (user : UserRec) where
   unfolding walked
   walked-none zero directory path h = refl
   walked-none (suc n) directory path h = rw h refl
+
+-- the same in the order of paths
+module _ (fs : FileSystem) (user : UserRec) where
+  pub ordered-zero : (n directory : ℕ) (path : List ℕ) → n ≡ 0 → ordered fs user n directory path ≡ []
+  unfolding ordered
+  ordered-zero zero directory path h = refl
+  ordered-zero (suc n) directory path h = absurd (omega arith)
+
+  pub ordered-suc : (n directory : ℕ) (path : List ℕ) → 0 < n
+      → ordered fs user n directory path ≡ flat_map (found_by (ordered fs user (n - 1)) path) (entries_in_order fs user directory)
+  unfolding ordered
+  ordered-suc zero directory path h = absurd (omega arith)
+  ordered-suc (suc n) directory path h = let e : suc n - 1 ≡ n = omega arith in rw e refl
 
 -- a directory's names with what they name, by value and by reference
 abbrev pub by_value : Vec ℕ Global × ℕ → List ℕ × ℕ

@@ -5,3 +5,6 @@ pub mod Views
 
 pub mod Walks
 pub mod Groups
+-- files without their paths, and a walk in the order of paths
+pub mod FileLists
+pub mod OrderedWalks

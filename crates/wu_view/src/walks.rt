@@ -77,7 +77,7 @@ fn walk(
 }
 
 /// What the user meets at the node of that number.
-fn meet(tree: &Tree, user: &UserRec, ino: Ino) -> Met
+pub(crate) fn meet(tree: &Tree, user: &UserRec, ino: Ino) -> Met
     requires { IsStrictlySortedBy nat_cmp user.now.groups }
     ensures { result ≡ met_at tree.now user.now ino }
 {
