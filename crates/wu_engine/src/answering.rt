@@ -15,7 +15,7 @@ use wu_query::answered;
 
 impl Engine {
     ghost use Rattle.wu_query.specs.States.{State};
-    ghost use Rattle.wu_query.specs.Causes.{IsDamagedFor, WasRead};
+    ghost use Rattle.wu_query.specs.Causes.{IsDamagedFor};
     ghost use Rattle.wu_query.specs.View.{view_of};
     ghost use Rattle.wu_query.specs.Answer.{answer};
     ghost use Rattle.wu_query.specs.Reads.{AreTexts, ReadsForQuery, texts_read};
@@ -66,13 +66,12 @@ impl Engine {
         ensures ends { IfErr result (λ trouble. self.new.ended ≡ Some trouble) }
         ensures again { AnswersAgain self.old self.new store.old store.new result }
         ensures cause { HasTroubleCause self.old.ended (D.faults store.old) (D.faults store.new) result }
-        // A blob is called damaged only where this query of hers read of it and needs it: a part of which her frames need a block
-        // of the terms, or, where the question has lines shown, the text of a file of hers; where frames, postings and records
-        // are those of a state, one of which a line is to be shown.
+        // A blob is called damaged only where this query of hers read of it and needs it: a part of which it read a block of the
+        // terms that her frames need, or, where the question has lines shown, the text of a file of hers of which it read bytes,
+        // and asked not only the size; where frames, postings and records are those of a state, one of which a line is to be shown.
         ensures damaged { (blob : ℕ) → result ≡ Err (Damaged blob) → (self.old.ended ≡ Some (Damaged blob))
-            ⊎ (WasRead (D.reads store.old) (D.reads store.new) blob
-            × IsDamagedFor self.old.tree self.old.space.ranges query.now.uid (question_of query.now.ask) self.old.parts
-            self.old.files.entries (D.holds store.old) blob) }
+            ⊎ ReadsSuch (λ read. IsDamagedFor self.old.tree self.old.space.ranges query.now.uid (question_of query.now.ask)
+            self.old.parts self.old.files.entries (D.holds store.old) read blob) (D.reads store.old) (D.reads store.new) }
         // Over whatever the store held at opening, the engine goes on, and a blob that is called damaged was broken then.
         ensures goes { StillGoes self.old self.new (D.holds store.old) (D.holds store.new) result }
         ensures broken { (start : Content) → Goes self.old start (D.holds store.old) → (blob : ℕ) → result ≡ Err (Damaged blob)

@@ -28,4 +28,4 @@ returns-in-Err-clause-broken g c = λ start goes blob e.
     found_is_broken start (g.D.Store.holds c.args.store.now) c.args.self.now.files.entries c.args.self.now.parts
     c.args.self.now.checkpoint blob goes.sound
     (damaged_in (g.D.Store.holds c.args.store.now) blob c.args.self.now.files.entries c.args.self.now.tree c.args.self.now.space.ranges
-    c.args.query.now.uid (question_of c.args.query.now.ask) c.args.self.now.parts (c.in-Err.ensures.cause.damaged blob same))
+    c.args.query.now.uid (question_of c.args.query.now.ask) c.args.self.now.parts (c.in-Err.ensures.cause.damaged blob same).1)
