@@ -10,6 +10,7 @@ pub mod IndexLemmas
 pub mod RecordLemmas
 pub mod SoundLemmas
 pub mod DrawnNumbers
+pub mod CallEnds
 pub mod StoredTexts
 pub mod OtherBlobs
 pub mod HeldParts

@@ -204,6 +204,10 @@ pub on_any_err : {T E : Type 0} (P : Type 0) (r : Result T E) → P → OnErr r 
 on_any_err P (Ok x) p = tt
 on_any_err P (Err e) p = p
 
+pub on_no_ok : {T E : Type 0} (P : Type 0) (Q : E → Type 0) (r : Result T E) → IsErrAnd r Q → OnOk r P
+on_no_ok P Q (Ok x) is = absurd is
+on_no_ok P Q (Err e) is = tt
+
 -- ---- a root that couldn't be opened
 
 -- the error that was passed on
@@ -234,3 +238,9 @@ module _ (T U : Type 0) where
   spent_on before opened fault r same is h =
       subst (λ (o : Option Content). IsSpentWhere o r) same
       (subst (λ (q : Result U BeginFault). IsSpentWhere opened q) (sym is) (spent_as opened fault h))
+
+  -- nor is the store spent then that has no root, or one that leaves room
+  pub never_spent : (holds : Option Content) (x : T) (r : Result U BeginFault) → IsSpentWhere {T = T} holds (Ok x) → IsSpentWhere holds r
+  never_spent None x r h = tt
+  never_spent (Some content) x r h = λ number spent.
+      absurd (⊎_elim (λ e. absurd (cc e)) (λ other. ⊎_elim (λ e. absurd (cc e)) (λ e. absurd (cc e)) other) (h number spent))

@@ -7,13 +7,16 @@ use Rattle.wu_layout.specs.Layouts.{FileEntry}
 use Rattle.wu_lists.specs.Keeping.{Kept}
 use Rattle.wu_ask.specs.Questions.{Question}
 use Rattle.wu_parts.specs.Candidates.{terms_held}
+use Rattle.wu_parts.specs.Contents.{Contents}
 use Rattle.wu_query.specs.Asked.{terms_asked}
 use Rattle.wu_query.specs.Finding.{KeepsTexts}
 use Rattle.wu_query.specs.Reads.{AreTexts, ReadsForQuery, texts_read}
+use Rattle.wu_query.specs.Records.{Records}
 use Rattle.wu_query.specs.Searched.{HoldsTexts, IsIndexOf, TellsPostings}
 use Rattle.wu_query.specs.States.{State, Texts}
 use Rattle.wu_query.proofs.ToldPostings.{blocks_kept}
 use Rattle.wu_engine.specs.declared.engines.Engine.{Engine}
+use Rattle.wu_engine.specs.Going.{Goes, IsSoundOver}
 use Rattle.wu_engine.specs.Stands.{KeepsJob, Stands}
 
 is_told : (holds : Option Content) (texts : Texts) (files : List (ℕ × FileEntry)) → HoldsTexts holds texts files → IsSome holds
@@ -96,4 +99,31 @@ reads_of_engine engine holds uid question kept before after r = record {
     );
     read = r.reads.read;
   };
+}
+
+-- over whatever the store held when it was opened, the engine goes on
+sound_kept : (start : Content) (held : Option Content) (files : Records) (contents : Contents) (kept : Kept) (check : ℕ)
+    → IsSoundOver start held files contents check → IsSoundOver start held files (record contents { kept = kept }) check
+sound_kept start None files contents kept check sound = absurd sound
+sound_kept start (Some content) files contents kept check sound = record {
+  paired = sound.paired;
+  blobs = sound.blobs;
+  texts = sound.texts;
+  parts = sound.parts;
+  job = sound.job;
+}
+
+pub goes_asked : (before after : Engine) (start : Content) (holds holds_now : Option Content) → after.ended ≡ None
+    → after.space ≡ before.space → after.files.entries ≡ before.files.entries → after.checkpoint ≡ before.checkpoint
+    → after.parts ≡ record before.parts { kept = after.parts.kept } → holds_now ≡ holds → Goes before start holds
+    → Goes after start holds_now
+goes_asked before after start holds holds_now on space files check parts same goes = record {
+  goes_on = on;
+  low = goes.low;
+  high = goes.high;
+  below = rw space goes.below;
+  postings = goes.postings;
+  memory = rw parts goes.memory;
+  sound = rw (same, files, check, parts)
+      (sound_kept start holds before.files.entries before.parts after.parts.kept before.checkpoint goes.sound);
 }

@@ -22,6 +22,7 @@ use Rattle.wu_layout.proofs.PostingLemmas.{outside_above, outside_below}
 use Rattle.wu_image.specs.declared.records.FileRec.{FileRec}
 use Rattle.wu_image.specs.Checkpoints.{file_numbers}
 use Rattle.wu_image.specs.LayoutRules.{IsText}
+use Rattle.wu_image.proofs.FileNumbers.{file_numbers_ascend, found_key, key_found, number_there, there_number}
 use Rattle.wu_token.specs.Tokens.{tokens_of}
 use Rattle.wu_query.specs.Records.{record_of, records_of}
 use Rattle.wu_query.specs.States.{State, IsState, Texts, indexed, text_in}

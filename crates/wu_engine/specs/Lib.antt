@@ -14,8 +14,12 @@ pub mod Permitted
 pub mod Going
 pub mod Puts
 pub mod Calls
+pub mod Changing
+pub mod Answering
 pub mod Renewing
 pub mod Earlier
+pub mod Saved
+pub mod Begun
 -- ---- What only private functions and proofs need
 
 pub mod Indexing

@@ -1,10 +1,6 @@
 //! What changes the index of an engine: events, flushes, and background work.
-ghost use Rattle.std.specs.Prelude.{◌≡◌, ◌≢◌, ◌⊎◌, ℕ, ◌+◌, ◌<◌, ◌≤◌, ◌^◌, None, Some, Ok, Err, true, length, IfOk, IfErr, OnOk};
+ghost use Rattle.std.specs.Prelude.{◌≡◌, ◌+◌, ◌<◌, ◌≤◌, ◌^◌, Ok, true, length, IfOk};
 ghost use Rattle.wu_base.specs.declared.limits.TheConstants.{ADDRESSES_MAX, TEXT_MAX};
-ghost use Rattle.wu_base.specs.declared.reports.Worked.TheVariants.{Idle};
-ghost use Rattle.wu_base.specs.declared.troubles.Trouble.TheVariants.{Damaged};
-ghost use Rattle.wu_outside.specs.Content.{Content};
-ghost use Rattle.wu_parts.specs.Working.{AreFew, DoesWork, IsDamaged, StopsWork, answer_of, is_idle};
 ghost use Rattle.wu_tree.specs.Steps.{IsEvent};
 ghost use Rattle.wu_tree.specs.declared.events.Refusal.{Refusal};
 
@@ -18,29 +14,28 @@ use wu_tree::{Event, effects_tell_files};
 
 impl Engine {
     ghost use Rattle.wu_query.specs.States.{State};
-    ghost use Rattle.wu_query.specs.Permitted.{ReadsOnly};
     ghost use Rattle.wu_engine.specs.States.{after_event, flushed_state, step, worked_state};
     ghost use Rattle.wu_engine.specs.Reports.{worked_in};
-    ghost use Rattle.wu_engine.specs.Stands.{KeepsOthers, Stands, leaves_store, taken_by, verdict_of};
-    ghost use Rattle.wu_engine.specs.Causes.{HasTroubleCause};
-    ghost use Rattle.wu_engine.specs.Naming.{AddsNamed};
-    ghost use Rattle.wu_engine.specs.Calls.{AnswersAgain, IsSameEngine, LeavesLast, DrawsAtMost, StillGoes};
-    ghost use Rattle.wu_engine.specs.Going.{Goes, HasBroken};
+    ghost use Rattle.wu_engine.specs.Stands.{leaves_store, taken_by, verdict_of};
+    ghost use Rattle.wu_engine.specs.Calls.{AnswersOrEnds, IsSameEngine, KeepsFiles, Leads};
+    ghost use Rattle.wu_engine.specs.Calls.{PutsDrawn, ReadsNothing, Steps};
+    ghost use Rattle.wu_engine.specs.Changing.{BlamesParts, GivesAddresses, ReadsForUnits};
+    ghost use Rattle.wu_engine.specs.Changing.{TellsIdle};
     ghost use Rattle.wu_engine.specs.declared.verdicts.Verdict.TheVariants.{Refused};
     ghost use Rattle.wu_engine.specs.Puts.{MayTryPut, MayTryPuts};
     ghost use Rattle.wu_engine.specs.Renewing.{LeavesFrames, touched_of};
-    ghost use Rattle.wu_engine.specs.Permitted.{MayReadForWork};
 
-    /// Applies an event, where `body` is the text that it gives to a file; other events give none. The event
-    /// happens or is refused, and a refused event changes nothing in engine and store. A text that isn't empty is
-    /// put into the store under the next blob's number. After an event that happened, memory is flushed where it is
-    /// full: its live postings become a part, which is put into the store under the number after that. No other
-    /// change of the store is tried, and nothing is read. The next address is at most ADDRESSES_MAX after it. Whatever it
-    /// answers, the next address, the number of the next blob and that of the flushes don't fall.
+    /// Applies an event, where `body` is the text that it gives to a file; other events give none.
+    /// The event happens or is refused, and a refused event changes nothing in engine and store. A
+    /// text that isn't empty is put into the store under the next blob's number. After an event
+    /// that happened, memory is flushed where it is full: its live postings become a part, which is
+    /// put into the store under the number after that. No other change of the store is tried, and
+    /// nothing is read. The next address is at most ADDRESSES_MAX after it. Whatever it answers,
+    /// the next address, the number of the next blob and that of the flushes don't fall.
     ///
-    /// The body has at most TEXT_MAX bytes. The number of the next blob, with two added, and that of the flushes,
-    /// with one, are below 2^63. The errors are a fault of the store and out of memory. Each ends the engine, and a
-    /// trouble that ended it is answered again.
+    /// The body has at most TEXT_MAX bytes. The number of the next blob, with two added, and that
+    /// of the flushes, with one, are below 2^63. The errors are a fault of the store and out of
+    /// memory. Each ends the engine, and a trouble that ended it is answered again.
     pub fn update<D: Store>(
         &mut self,
         store: &mut D,
@@ -53,40 +48,34 @@ impl Engine {
         requires blobs { self.old.parts.next_blob + 2 < 2 ^ 63 }
         requires flushes { self.old.parts.flushes + 1 < 2 ^ 63 }
         // The answer is the step's, and engine and store stand for the state after it.
-        ensures step { (s : State) → Stands self.old (D.holds store.old) s → IfOk result (λ verdict.
-            (verdict ≡ verdict_of (step s event.now body.now))
-            × Stands self.new (D.holds store.new) (after_event self.old.parts.flush_at s event.now body.now)) }
-        // A blob that wasn't there before is one that the state names.
-        ensures named { (s : State) → Stands self.old (D.holds store.old) s → OnOk result
-            (AddsNamed (after_event self.old.parts.flush_at s event.now body.now).layout (D.holds store.old) (D.holds store.new)) }
-        // Addresses and numbers only grow, whatever the answer.
-        ensures given { self.old.space.next ≤ self.new.space.next }
-        ensures taken { self.new.space.next ≤ self.old.space.next + taken_by event.now body.now }
-        ensures numbers { DrawsAtMost 2 self.old.parts self.new.parts }
-        ensures checkpoint { self.new.checkpoint ≡ self.old.checkpoint }
-        // A refused event leaves all of the engine.
-        ensures refused { (refusal : Refusal) → result ≡ Ok (Refused refusal) → IsSameEngine self.old self.new }
-        // What is left of the kept frames: a refused event leaves all, another those of all users whom it doesn't concern.
-        ensures frames { IfOk result (λ verdict. LeavesFrames verdict self.new.tree
-            (touched_of self.old.tree self.old.space.ranges event.now) self.old.frames self.new.frames) }
-
-        // What the store holds changes only at the two blobs that may be drawn, also where the call fails. No call
-        // of the store is made but for a text that isn't empty and for a flush.
-        ensures untouched { IfOk result (λ verdict. leaves_store verdict event.now body.now self.old.parts ≡ true
-            → (store.new ≡ store.old) × (self.new.parts.next_blob ≡ self.old.parts.next_blob)) }
-        ensures elsewhere { KeepsOthers self.old.parts.next_blob (self.old.parts.next_blob + 2) (D.holds store.old) (D.holds store.new) }
+        ensures step { Steps D.Store (λ s. verdict_of (step s event.now body.now))
+            (λ s. after_event self.old.parts.flush_at s event.now body.now)
+            self.old self.new store.old store.new result }
+        // Addresses only grow, by those that the event takes at most, whatever the answer.
+        ensures addresses { GivesAddresses (taken_by event.now body.now)
+            self.old.space self.new.space }
+        // What the store holds changes only at the two blobs that may be drawn, also where the call
+        // fails.
+        ensures drawn { PutsDrawn D.Store 2 self.old self.new store.old store.new }
         // At most two puts of these blobs are tried, and the store is not synced.
-        ensures tried { MayTryPuts self.old.parts.next_blob (self.old.parts.next_blob + 2) 2 (D.moments store.old) (D.moments store.new) }
-        ensures reads { D.reads store.new ≡ D.reads store.old }
-        // A crash in the call or after it leaves the state that was saved last, whatever the answer.
-        ensures survives { LeavesLast self.old (D.holds store.old) (D.moments store.old) (D.moments store.new) }
-
-        ensures goes { StillGoes self.old self.new (D.holds store.old) (D.holds store.new) result }
-        ensures goes_on { OnOk result (self.new.ended ≡ None) }
-        ensures ends { IfErr result (λ trouble. self.new.ended ≡ Some trouble) }
-        ensures again { AnswersAgain self.old self.new store.old store.new result }
-        ensures cause { HasTroubleCause self.old.ended (D.faults store.old) (D.faults store.new) result }
-        ensures damaged { (blob : ℕ) → result ≡ Err (Damaged blob) → self.old.ended ≡ Some (Damaged blob) }
+        ensures tried { MayTryPuts self.old.parts.next_blob (self.old.parts.next_blob + 2) 2
+            (D.moments store.old) (D.moments store.new) }
+        // No call of the store is made but for a text that isn't empty and for a flush.
+        ensures untouched { IfOk result (λ verdict.
+            leaves_store verdict event.now body.now self.old.parts ≡ true
+            → (store.new ≡ store.old) × (self.new.parts.next_blob ≡ self.old.parts.next_blob)) }
+        // A refused event leaves all of the engine.
+        ensures refused { (refusal : Refusal) → result ≡ Ok (Refused refusal)
+            → IsSameEngine self.old self.new }
+        // Of the kept frames a refused event leaves all, another those of all users whom it doesn't
+        // concern.
+        ensures frames { IfOk result (λ verdict. LeavesFrames verdict self.new.tree
+            (touched_of self.old.tree self.old.space.ranges event.now)
+            self.old.frames self.new.frames) }
+        // Nothing is read, and no blob is called damaged.
+        ensures reads { ReadsNothing D.Store self.old store.old store.new result }
+        // An engine that answers goes on, and a trouble ends it.
+        ensures ends { AnswersOrEnds D.Store self.old self.new store.old store.new result }
     {
         let _untouched = &*store;
         if let Some(trouble) = self.ended {
@@ -123,43 +112,35 @@ impl Engine {
         }
     }
 
-    /// Makes a part of the live postings in memory, and puts it into the store under the next blob's number;
-    /// memory is empty then. Where no posting in memory is live no part is made, no blob is drawn and the store
-    /// is not touched. Nothing is read. Whatever it answers, the tree, the addresses, what is recorded of texts, the
-    /// kept frames and the checkpoint's number stay as they are.
+    /// Makes a part of the live postings in memory, and puts it into the store under the next
+    /// blob's number; memory is empty then. Where no posting in memory is live no part is made, no
+    /// blob is drawn and the store is not touched. Nothing is read. Whatever it answers, the tree,
+    /// the addresses, what is recorded of texts, the kept frames and the checkpoint's number stay
+    /// as they are.
     ///
-    /// The number of the next blob and that of the flushes, each with one added, are below 2^63. The errors are a
-    /// fault of the store and out of memory. Each ends the engine, and a trouble that ended it is answered again.
+    /// The number of the next blob and that of the flushes, each with one added, are below 2^63.
+    /// The errors are a fault of the store and out of memory. Each ends the engine, and a trouble
+    /// that ended it is answered again.
     pub fn flush<D: Store>(&mut self, store: &mut D) -> Result<(), Trouble>
         requires blobs { self.old.parts.next_blob + 1 < 2 ^ 63 }
         requires flushes { self.old.parts.flushes + 1 < 2 ^ 63 }
-        ensures step { (s : State) → Stands self.old (D.holds store.old) s
-            → OnOk result (Stands self.new (D.holds store.new) (flushed_state s)) }
-        ensures named { (s : State) → Stands self.old (D.holds store.old) s
-            → OnOk result (AddsNamed (flushed_state s).layout (D.holds store.old) (D.holds store.new)) }
-        ensures tree { self.new.tree ≡ self.old.tree }
-        ensures files { self.new.files ≡ self.old.files }
-        ensures space { self.new.space ≡ self.old.space }
-        ensures checkpoint { self.new.checkpoint ≡ self.old.checkpoint }
-        ensures numbers { DrawsAtMost 1 self.old.parts self.new.parts }
-        ensures frames { self.new.frames ≡ self.old.frames }
-
-        // What the store holds changes only at the blob that may be drawn, also where the call fails. Where none is drawn no call of
-        // the store is made.
-        ensures untouched { self.new.parts.next_blob ≡ self.old.parts.next_blob → store.new ≡ store.old }
-        ensures elsewhere { KeepsOthers self.old.parts.next_blob (self.old.parts.next_blob + 1) (D.holds store.old) (D.holds store.new) }
+        // Engine and store stand for the flushed state.
+        ensures step { Leads D.Store flushed_state self.old self.new store.old store.new result }
+        // Of the engine only the parts change.
+        ensures same { KeepsFiles self.old self.new }
+        // What the store holds changes only at the blob that may be drawn, also where the call
+        // fails.
+        ensures drawn { PutsDrawn D.Store 1 self.old self.new store.old store.new }
         // The only change that may be tried is that blob's put, and the store is not synced.
-        ensures tried { MayTryPut self.old.parts.next_blob (D.moments store.old) (D.moments store.new) }
-        ensures reads { D.reads store.new ≡ D.reads store.old }
-        // A crash in the call or after it leaves the state that was saved last, whatever the answer.
-        ensures survives { LeavesLast self.old (D.holds store.old) (D.moments store.old) (D.moments store.new) }
-
-        ensures goes { StillGoes self.old self.new (D.holds store.old) (D.holds store.new) result }
-        ensures goes_on { OnOk result (self.new.ended ≡ None) }
-        ensures ends { IfErr result (λ trouble. self.new.ended ≡ Some trouble) }
-        ensures again { AnswersAgain self.old self.new store.old store.new result }
-        ensures cause { HasTroubleCause self.old.ended (D.faults store.old) (D.faults store.new) result }
-        ensures damaged { (blob : ℕ) → result ≡ Err (Damaged blob) → self.old.ended ≡ Some (Damaged blob) }
+        ensures tried { MayTryPut self.old.parts.next_blob
+            (D.moments store.old) (D.moments store.new) }
+        // Where none is drawn no call of the store is made.
+        ensures untouched { self.new.parts.next_blob ≡ self.old.parts.next_blob
+            → store.new ≡ store.old }
+        // Nothing is read, and no blob is called damaged.
+        ensures reads { ReadsNothing D.Store self.old store.old store.new result }
+        // An engine that answers goes on, and a trouble ends it.
+        ensures ends { AnswersOrEnds D.Store self.old self.new store.old store.new result }
     {
         let _untouched = &*store;
         if let Some(trouble) = self.ended {
@@ -175,61 +156,40 @@ impl Engine {
         }
     }
 
-    /// Does up to `n` units of background work on the parts: each does the first term that is left of the job
-    /// under way, or of the one that is named next. With its last term a job ends: what is left of its parts, if
-    /// anything, is put into the store under the next blob's number, and stands in their place. It stops early
-    /// only where there is nothing to do. It answers Idle exactly where no job is under way then and none is
-    /// named, else Busy.
+    /// Does up to `n` units of background work on the parts: each does the first term that is left
+    /// of the job under way, or of the one that is named next. With its last term a job ends: what
+    /// is left of its parts, if anything, is put into the store under the next blob's number, and
+    /// stands in their place. It stops early only where there is nothing to do. It answers Idle
+    /// exactly where no job is under way then and none is named, else Busy.
     ///
-    /// Of the store only the blocks of these terms in the jobs' parts are read, each in one read. Whatever it
-    /// answers, the tree, the addresses, what is recorded of texts, the kept frames and the checkpoint's number stay
-    /// as they are. The number of the next blob, with `n` added, is below 2^63.
-    /// The errors are a damaged part, a fault of the store, and out of memory. Each ends the engine, and a trouble
-    /// that ended it is answered again.
+    /// Of the store only the blocks of these terms in the jobs' parts are read, each in one read.
+    /// Whatever it answers, the tree, the addresses, what is recorded of texts, the kept frames and
+    /// the checkpoint's number stay as they are. The number of the next blob, with `n` added, is
+    /// below 2^63. The errors are a damaged part, a fault of the store, and out of memory. Each
+    /// ends the engine, and a trouble that ended it is answered again.
     pub fn work<D: Store>(&mut self, store: &mut D, n: u32) -> Result<Worked, Trouble>
         requires blobs { self.old.parts.next_blob + n < 2 ^ 63 }
         // The answer is that of the state after the units, and engine and store stand for it.
-        ensures step { (s : State) → Stands self.old (D.holds store.old) s → IfOk result (λ worked.
-            (worked ≡ worked_in (worked_state n s)) × Stands self.new (D.holds store.new) (worked_state n s)) }
-        ensures named { (s : State) → Stands self.old (D.holds store.old) s
-            → OnOk result (AddsNamed (worked_state n s).layout (D.holds store.old) (D.holds store.new)) }
-        ensures answer { IfOk result (λ worked. worked ≡ answer_of (is_idle self.new.space.ranges self.new.parts)) }
-        // Where there is nothing to do there are few parts, and most of each is live.
-        ensures few { IfOk result (λ worked. worked ≡ Idle → AreFew self.new.space.ranges self.new.parts) }
-        ensures tree { self.new.tree ≡ self.old.tree }
-        ensures files { self.new.files ≡ self.old.files }
-        ensures space { self.new.space ≡ self.old.space }
-        ensures checkpoint { self.new.checkpoint ≡ self.old.checkpoint }
-        ensures numbers { DrawsAtMost n self.old.parts self.new.parts }
+        ensures step { Steps D.Store (λ s. worked_in (worked_state n s)) (worked_state n)
+            self.old self.new store.old store.new result }
+        // Idle comes exactly where there is nothing to do, and then there are few parts.
+        ensures idle { TellsIdle self.new result }
+        // Of the engine only the parts change.
+        ensures same { KeepsFiles self.old self.new }
+        // No flush is counted.
         ensures counted { self.new.parts.flushes ≡ self.old.parts.flushes }
-        ensures frames { self.new.frames ≡ self.old.frames }
-
-        // What the store holds changes only at the blobs that may be drawn, also where the call fails.
-        ensures elsewhere { KeepsOthers self.old.parts.next_blob (self.old.parts.next_blob + n) (D.holds store.old) (D.holds store.new) }
+        // What the store holds changes only at the blobs that may be drawn, also where the call
+        // fails.
+        ensures drawn { PutsDrawn D.Store n self.old self.new store.old store.new }
         // At most one put for each unit is tried, of these blobs, and the store is not synced.
-        ensures tried { MayTryPuts self.old.parts.next_blob (self.old.parts.next_blob + n) n (D.moments store.old) (D.moments store.new) }
-        // The units that were done read their terms' blocks, and nothing else is read, also where one of them fails.
-        ensures reads { OnOk result (DoesWork self.old.space.ranges n self.old.parts self.new.parts
-            (D.holds store.old, D.moments store.old) (D.holds store.new, D.moments store.new) (D.reads store.old) (D.reads store.new)) }
-        ensures stops { self.old.ended ≡ None → IfErr result (StopsWork self.old.space.ranges n self.old.parts
-            (D.holds store.old, D.moments store.old) (D.faults store.old) (D.faults store.new) (D.reads store.old) (D.reads store.new)) }
-        // Where engine and store stand for a state, only what these units of its may read is read, whatever the answer.
-        ensures permitted { (s : State) → Stands self.old (D.holds store.old) s
-            → ReadsOnly (MayReadForWork s.layout n) (D.reads store.old) (D.reads store.new) }
-        // A crash in the call or after it leaves the state that was saved last, whatever the answer.
-        ensures survives { LeavesLast self.old (D.holds store.old) (D.moments store.old) (D.moments store.new) }
-
-        ensures goes_on { OnOk result (self.new.ended ≡ None) }
-        ensures ends { IfErr result (λ trouble. self.new.ended ≡ Some trouble) }
-        ensures again { AnswersAgain self.old self.new store.old store.new result }
-        ensures cause { HasTroubleCause self.old.ended (D.faults store.old) (D.faults store.new) result }
-        ensures damaged { (blob : ℕ) → result ≡ Err (Damaged blob)
-            → (self.old.ended ≡ Some (Damaged blob)) ⊎ IsDamaged (D.holds store.old) self.old.parts blob }
-        ensures goes { StillGoes self.old self.new (D.holds store.old) (D.holds store.new) result }
-        ensures broken { (start : Content) → Goes self.old start (D.holds store.old) → (blob : ℕ) → result ≡ Err (Damaged blob)
-            → HasBroken start blob }
-        // No blob is answered as damaged where engine and store stand for a state.
-        ensures undamaged { (s : State) → Stands self.old (D.holds store.old) s → (blob : ℕ) → result ≢ Err (Damaged blob) }
+        ensures tried { MayTryPuts self.old.parts.next_blob (self.old.parts.next_blob + n) n
+            (D.moments store.old) (D.moments store.new) }
+        // Only blocks of the units' terms are read.
+        ensures reads { ReadsForUnits D.Store n self.old self.new store.old store.new result }
+        // Only a part that is damaged is called so.
+        ensures damaged { BlamesParts D.Store self.old store.old result }
+        // An engine that answers goes on, and a trouble ends it.
+        ensures ends { AnswersOrEnds D.Store self.old self.new store.old store.new result }
     {
         let _untouched = &*store;
         if let Some(trouble) = self.ended {

@@ -1,5 +1,6 @@
 //! How an event that is accepted changes the index and the store.
-ghost use Rattle.std.specs.Prelude.{◌≡◌, None, Some, ◌+◌, ◌++◌, ◌<◌, ◌≤◌, ◌^◌, false, IfErr, IfOk, IfSome, IsSome, OnOk, length, option_map};
+ghost use Rattle.std.specs.Prelude.{◌≡◌, None, Some, ◌+◌, ◌++◌, ◌<◌, ◌≤◌, ◌^◌, false};
+ghost use Rattle.std.specs.Prelude.{IfErr, IfOk, IfSome, IsSome, OnOk, length, option_map};
 ghost use Rattle.wu_base.specs.declared.limits.TheConstants.{ADDRESSES_MAX, TEXT_MAX};
 ghost use Rattle.wu_outside.specs.Faults.{HasFaultCause};
 ghost use Rattle.wu_space.specs.Addresses.{range_of};
@@ -8,7 +9,10 @@ ghost use Rattle.wu_parts.specs.Memory.{Gains};
 ghost use Rattle.wu_engine.specs.Calls.{DrawsAtMost};
 ghost use Rattle.wu_engine.specs.Puts.{MayPut, MayTryPut, MayTryPuts};
 ghost use Rattle.wu_engine.specs.Stands.{KeepsOthers};
-ghost use Rattle.wu_engine.specs.Indexing.{Follows, FlushesFull, IsIndexable, KeepsParts, blob_for, blob_of, catalog_after, catalog_of, catalog_with, catalog_without, drawn_for, is_stored, stored_at, terms_after, terms_given};
+ghost use Rattle.wu_engine.specs.Indexing.{Follows, FlushesFull, IsIndexable, KeepsParts};
+ghost use Rattle.wu_engine.specs.Indexing.{blob_for, blob_of, catalog_after, catalog_of, catalog_with};
+ghost use Rattle.wu_engine.specs.Indexing.{catalog_without, drawn_for, is_stored, stored_at};
+ghost use Rattle.wu_engine.specs.Indexing.{terms_after, terms_given};
 
 use std::collections::BTreeMap;
 use wu_base::{Ino, NoMemory, Range, Trouble};

@@ -8,13 +8,16 @@ ghost use Rattle.wumpus_run.specs.Session.{IsUsage, code_of};
 
 mod arguments;
 mod messages;
+mod progress;
 
 use crate::arguments::arguments;
 use crate::messages::Message;
+use crate::progress::{ErasingSink, WatchedStore, erase};
 use std::alloc::{AllocError, Global};
 use std::fs::File;
 use std::io::IsTerminal;
 use std::process::ExitCode;
+use wu_options::{CommandLine, read_command_line};
 use wu_outside::{DirStore, Failure, StdIn, StdOut};
 use wumpus_run::{Status, run};
 
@@ -95,15 +98,27 @@ fn session_of(rt: &HostRuntime, arguments: &[String]) -> Ended
     let Ok(mut store) = DirStore::new(rt, FOLDER) else {
         return Ended::plainly(Status::NoMemory);
     };
-    let status = run(
-        rt.alloc(),
-        texts.as_slice(),
-        &mut source,
-        &mut sink,
-        &mut store,
-    );
+    let words = texts.as_slice();
+    if is_watched(rt, words) {
+        let mut store = WatchedStore::new(rt, store);
+        let mut sink = ErasingSink { rt, sink };
+        let status = run(rt.alloc(), words, &mut source, &mut sink, &mut store);
+        erase(rt);
+        let reason = reason_for(rt, status, store.inner().last_failure());
+        return Ended { status, reason };
+    }
+    let status = run(rt.alloc(), words, &mut source, &mut sink, &mut store);
     let reason = reason_for(rt, status, store.last_failure());
     Ended { status, reason }
+}
+
+/// Whether the words ask for a check and a person is there to see how far it is.
+fn is_watched(rt: &HostRuntime, words: &[&str]) -> bool {
+    rt.stderr().is_terminal()
+        && matches!(
+            read_command_line(rt.alloc(), words),
+            Ok(Some(CommandLine::Check))
+        )
 }
 
 /// Which file of the store failed and why, where that ended the session and a person is there to read it.

@@ -46,3 +46,4 @@ pub mod RebuiltTexts
 pub mod RebuiltStates
 pub mod ShortNumbers
 pub mod SavedNumbers
+pub mod OneImages

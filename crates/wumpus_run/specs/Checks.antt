@@ -11,6 +11,8 @@ use Rattle.wu_outside.specs.Gains.{GainsPrefix}
 use Rattle.wu_check.specs.Wrong.{IsChecked}
 use Rattle.wu_check.specs.declared.checking.Checked.{Checked}
 use Rattle.wu_check.specs.declared.checking.Checked.TheVariants.{Sound, Broken}
+use Rattle.wu_query.specs.States.{State}
+use Rattle.wu_engine.specs.Opening.{HoldsImage}
 use Rattle.wu_options.specs.declared.command_lines.CommandLine.{CommandLine}
 use Rattle.wu_options.specs.declared.command_lines.CommandLine.TheVariants.{Run, Demo, Check}
 use Rattle.wumpus_run.specs.declared.statuses.Status.{Status}
@@ -20,6 +22,11 @@ use Rattle.wumpus_run.specs.Session.{Moment}
 -- nothing is wrong, and these numbers are counted
 abbrev pub sound_with : Stat → Checked
 sound_with stat = Sound stat.files stat.live stat.stored stat.parts
+
+-- the content is an image of the state, and of no other
+pub record IsImageOfOne (content : Content) (s : State) : Type 0 where
+  pub image : HoldsImage (Some content) s
+  pub alone : (other : State) → HoldsImage (Some content) other → other ≡ s
 
 -- the line that tells what was found
 abbrev pub check_line : Checked → List ℕ

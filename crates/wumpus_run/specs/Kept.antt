@@ -14,7 +14,7 @@ use Rattle.wu_query.specs.States.{State}
 use Rattle.wu_engine.specs.declared.engines.Engine.{Engine}
 use Rattle.wu_engine.specs.Crashes.{IsImageOf, IsImageOfEither, IsSavedLast}
 use Rattle.wu_engine.specs.Earlier.{KeepsCheckpoint, LeavesEarlier}
-use Rattle.wu_engine.specs.Going.{Goes, HasBroken}
+use Rattle.wu_engine.specs.Going.{Goes}
 use Rattle.wu_engine.specs.Opening.{HasRoot}
 use Rattle.wu_engine.specs.Stands.{Stands}
 use Rattle.wumpus_run.specs.Crashes.{IsImageOfOne, last_or, left_to_next, saved_for}
@@ -83,8 +83,3 @@ NamesDrawn next holds = IfSome holds (λ content. (root : Root) → HasRoot cont
 -- so it is still, if it was
 abbrev pub StaysDrawn : Engine → Engine → Option Content → Option Content → Type 0
 StaysDrawn engine later before now = NamesDrawn engine.parts.next_blob before → NamesDrawn later.parts.next_blob now
-
--- a blob is called damaged only where it was broken then
-abbrev pub BlamesBroken : {T : Type 0} → Engine → Option Content → Result T Trouble → Type 0
-BlamesBroken engine holds result =
-    (start : Content) → Goes engine start holds → (blob : ℕ) → result ≡ Err (Damaged blob) → HasBroken start blob

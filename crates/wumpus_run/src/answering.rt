@@ -1,5 +1,6 @@
 //! An item of the script is answered by the engine.
-ghost use Rattle.std.specs.Prelude.{◌≡◌, ◌⊎◌, ℕ, ◌+◌, ◌<◌, ◌≤◌, ◌^◌, ◌++◌, true, None, Option, Some, Err, length, IfErr, IfOk, OnOk};
+ghost use Rattle.std.specs.Prelude.{◌≡◌, ◌⊎◌, ℕ, ◌+◌, ◌<◌, ◌≤◌, ◌^◌, ◌++◌, true, None, Option, Some};
+ghost use Rattle.std.specs.Prelude.{Err, length, IfErr, IfOk, OnOk};
 ghost use Rattle.wu_base.specs.declared.limits.TheConstants.{ADDRESSES_MAX, TEXT_MAX, WORK_MAX};
 ghost use Rattle.wu_base.specs.declared.troubles.Trouble.TheVariants.{Damaged};
 ghost use Rattle.wu_outside.specs.Content.{Content};
@@ -11,11 +12,13 @@ ghost use Rattle.wu_script.specs.Said.{Asks, Happens, IsSoundItem, Operates, sai
 ghost use Rattle.wu_query.specs.Reads.{AreTexts, ReadsForQuery, texts_read};
 ghost use Rattle.wu_query.specs.States.{State};
 ghost use Rattle.wu_engine.specs.Causes.{HasTroubleCause};
-ghost use Rattle.wu_engine.specs.Calls.{LeavesLast, StillGoes};
+ghost use Rattle.wu_engine.specs.Calls.{BlamesBroken, LeavesLast, StillGoes};
 ghost use Rattle.wu_engine.specs.Crashes.{IsImageOf};
 ghost use Rattle.wu_engine.specs.Stands.{KeepsOthers, Stands};
 ghost use Rattle.wumpus_run.specs.Crashes.{left_to_next};
-ghost use Rattle.wumpus_run.specs.Kept.{AddsDrawnFor, BlamesBroken, BlamesNone, KeepsDrawn, KeepsEitherSave, KeepsRootsCheckpoint, KeepsSaves, NamesAll, ReadsFor, RepliesTo, SavesFor, StaysDrawn, TouchesNoStray};
+ghost use Rattle.wumpus_run.specs.Kept.{AddsDrawnFor, BlamesNone, KeepsDrawn, KeepsEitherSave};
+ghost use Rattle.wumpus_run.specs.Kept.{KeepsRootsCheckpoint, KeepsSaves, NamesAll, ReadsFor, RepliesTo};
+ghost use Rattle.wumpus_run.specs.Kept.{SavesFor, StaysDrawn, TouchesNoStray};
 ghost use Rattle.wumpus_run.specs.Raised.{IsRaised, PutsAtMost, SavesOnce, is_unasked, leaves_alone};
 ghost use Rattle.wumpus_run.specs.Replies.{after, reply_to, said_bytes, verdict_reply};
 

@@ -1,8 +1,8 @@
 //! Laws of states and of replies.
-ghost use Rattle.std.specs.Prelude.{◌≡◌, ℕ, List, ◌∷◌, map, Option, Some};
+ghost use Rattle.std.specs.Prelude.{◌≡◌, ◌↔◌, ℕ, List, ◌∷◌, map, Option, Some};
 ghost use Rattle.std.specs.List.{All};
 ghost use Rattle.wu_outside.specs.Content.{Content};
-ghost use Rattle.wu_check.specs.Wrong.{IsChecked};
+ghost use Rattle.wu_check.specs.Wrong.{IsChecked, IsSound, IsWrong};
 ghost use Rattle.wu_check.specs.declared.checking.Checked.{Checked};
 ghost use Rattle.wu_ask.specs.Questions.{Question};
 ghost use Rattle.wu_script.specs.Commands.{Operation};
@@ -13,7 +13,7 @@ ghost use Rattle.wu_query.specs.View.{view_of};
 ghost use Rattle.wu_engine.specs.Opening.{HoldsImage};
 ghost use Rattle.wu_engine.specs.Reports.{stat_of};
 ghost use Rattle.wu_engine.specs.States.{first_state};
-ghost use Rattle.wumpus_run.specs.Checks.{sound_with};
+ghost use Rattle.wumpus_run.specs.Checks.{IsImageOfOne, sound_with};
 ghost use Rattle.wumpus_run.specs.Replies.{Rules, last_state, met, reply_to};
 ghost use Rattle.wumpus_run.specs.Rebuilt.{AreQueriesOf, HasShortNumbers, IsRebuilt, IsToldTheSame};
 
@@ -84,4 +84,14 @@ pub fn a_saved_store_is_sound()
     ensures alone { (content : Content) (s : State) (checked : Checked)
         → HoldsImage (Some content) s → IsChecked content checked
         → checked ≡ sound_with (stat_of s) }
+{}
+
+/// A check says `ok` exactly where the store is an image of the one state that its contents spell:
+/// what is sound is an image of a state, and of no other, whose numbers are counted, and each image
+/// is sound. What is called broken is an image of no state.
+pub fn a_sound_store_is_of_one_state()
+    ensures sound { (content : Content) (counts : Checked) → IsSound content counts
+        ↔ ((s : State) × IsImageOfOne content s × (counts ≡ sound_with (stat_of s))) }
+    ensures broken { (content : Content) (blob : ℕ) (s : State) → IsWrong content blob
+        → HoldsImage (Some content) s → ⊥ }
 {}

@@ -11,7 +11,7 @@ mod tallies;
 
 pub use laws::{
     a_copy_is_answered_alike, a_saved_store_is_sound, a_script_keeps_a_state,
-    an_export_makes_the_view_again, equal_views_are_answered_alike,
+    a_sound_store_is_of_one_state, an_export_makes_the_view_again, equal_views_are_answered_alike,
     no_view_depends_on_flushes_work_or_saves, numbers_stay_within_32_bits,
 };
 pub use session::run;

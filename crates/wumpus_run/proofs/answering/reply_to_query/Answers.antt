@@ -16,12 +16,12 @@ returns-in_err-answered-clause-damaged g c = λ s stands blob e.
     (λ found. undamaged engine holds s blob stands
     (damaged_in holds blob engine.files.entries engine.tree engine.space.ranges c.args.query.now.uid
     (question_of c.args.query.now.ask) engine.parts found.1))
-    (c.in_err-answered.ensures.damaged blob
+    (c.in_err-answered.ensures.damaged.damaged blob
     (ap Err (same_trouble c.from_residual.result trouble (Damaged blob) c.from_residual.ensures.1 e)))
 
 pub returns-in_err-answered-clause-broken : goal.returns-in_err-answered-clause-broken
 returns-in_err-answered-clause-broken g c = λ start goes blob e.
-    c.in_err-answered.ensures.broken start goes blob
+    c.in_err-answered.ensures.damaged.broken start goes blob
     (ap Err (same_trouble c.from_residual.result c.in_err-answered.field-0.0 (Damaged blob) c.from_residual.ensures.1 e))
 
 pub returns-clause-reply : goal.returns-clause-reply
@@ -30,10 +30,10 @@ returns-clause-reply g c = λ s stands.
     (ap (λ (answered : Answered). Some (replies.Answered answered)) answer.0, answer.1)
 
 pub returns-clause-permitted : goal.returns-clause-permitted
-returns-clause-permitted g c = c.in_ok-answered.ensures.permitted
+returns-clause-permitted g c = c.in_ok-answered.ensures.reads.permitted
 
 pub returns-in_err-answered-clause-permitted : goal.returns-in_err-answered-clause-permitted
-returns-in_err-answered-clause-permitted g c = c.in_err-answered.ensures.permitted
+returns-in_err-answered-clause-permitted g c = c.in_err-answered.ensures.reads.permitted
 
 pub returns-clause-reads : goal.returns-clause-reads
-returns-clause-reads g c = c.in_ok-answered.ensures.reads
+returns-clause-reads g c = c.in_ok-answered.ensures.reads.done

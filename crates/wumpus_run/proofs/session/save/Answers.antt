@@ -39,8 +39,8 @@ returns-clause-met g c = λ e. met_saving _ c.save.new.self.ended (search rules)
 
 pub returns-clause-strays : goal.returns-clause-strays
 returns-clause-strays g c =
-    touches_saved c.args.engine.now _ (g.D.Store.holds c.args.store.now) (g.D.Store.holds c.save.new.store) c.save.ensures.elsewhere
+    touches_saved c.args.engine.now _ (g.D.Store.holds c.args.store.now) (g.D.Store.holds c.save.new.store) c.save.ensures.blobs.elsewhere
 
 pub returns-clause-puts : goal.returns-clause-puts
 returns-clause-puts g c =
-    adds_saved c.args.engine.now (g.D.Store.holds c.args.store.now) (g.D.Store.holds c.save.new.store) c.save.ensures.elsewhere
+    adds_saved c.args.engine.now (g.D.Store.holds c.args.store.now) (g.D.Store.holds c.save.new.store) c.save.ensures.blobs.elsewhere

@@ -7,12 +7,12 @@ use Rattle.wumpus_run.proofs.session.start.Goals as goal
 pub returns-in_err-begin-clause-spent : goal.returns-in_err-begin-clause-spent
 returns-in_err-begin-clause-spent g c =
     IsSpentWhere-passed _ _ (g.D.Store.holds c.args.store.now) c.from_residual-in_err-begin.result c.in_err-begin.field-0.0
-    c.from_residual-in_err-begin.ensures.1 c.in_err-begin.ensures.spent
+    c.from_residual-in_err-begin.ensures.1 c.in_err-begin.ensures.fails.spent
 
 pub returns-clause-spent : goal.returns-clause-spent
 returns-clause-spent g c =
     IsSpentWhere-paired _ _ (g.D.Store.holds c.args.store.now) c.in_ok-begin.field-0 _
-    c.in_ok-begin.ensures.spent
+    c.in_ok-begin.ensures.fails.spent
 
 pub returns-in_err-new-clause-survives : goal.returns-in_err-new-clause-survives
 returns-in_err-new-clause-survives g c =
