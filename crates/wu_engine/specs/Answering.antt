@@ -4,7 +4,7 @@ use Rattle.wu_base.specs.declared.troubles.Trouble.{Trouble}
 use Rattle.wu_base.specs.declared.troubles.Trouble.TheVariants.{Damaged}
 use Rattle.wu_outside.specs.declared.traits.Store as stores
 use Rattle.wu_ask.specs.Questions.{Question}
-use Rattle.wu_query.specs.Causes.{IsDamagedFor, WasRead}
+use Rattle.wu_query.specs.Causes.{IsDamagedFor}
 use Rattle.wu_query.specs.Permitted.{AreReadForQuery, ReadsSuch}
 use Rattle.wu_query.specs.Reads.{AreTexts, ReadsForQuery, texts_read}
 use Rattle.wu_query.specs.States.{State}
@@ -32,12 +32,12 @@ pub record ReadsForQuestion {D T : Type 0} (Store : stores.Ghosts D) (uid : ℕ)
   pub permitted : (s : State) → Stands before (Store.holds old) s
       → ReadsSuch (AreReadForQuery s uid question) (Store.reads old) (Store.reads new)
 
--- A blob is called damaged only where this query of hers read of it and needs it: a part of which her frames need a block of the terms, or,
--- where the question has lines shown, the text of a file of hers; where frames, postings and records are those of a state, one of which a
--- line is to be shown. Over whatever the store held when the engine was opened, it was broken then.
+-- A blob is called damaged only where this query of hers read of it and needs it: a part of which it read a block of the terms that her
+-- frames need, or, where the question has lines shown, the text of a file of hers of which it read bytes, and not only asked the size;
+-- where frames, postings and records are those of a state, one of which a line is to be shown. Over whatever the store held when the engine was opened, it was broken then.
 pub record BlamesAsked {D T : Type 0} (Store : stores.Ghosts D) (uid : ℕ) (question : Question) (before : Engine) (old new : D)
     (result : Result T Trouble) : Type 0 where
   pub damaged : (blob : ℕ) → result ≡ Err (Damaged blob) → (before.ended ≡ Some (Damaged blob))
-      ⊎ (WasRead (Store.reads old) (Store.reads new) blob
-      × IsDamagedFor before.tree before.space.ranges uid question before.parts before.files.entries (Store.holds old) blob)
+      ⊎ ReadsSuch (λ read. IsDamagedFor before.tree before.space.ranges uid question before.parts before.files.entries
+      (Store.holds old) read blob) (Store.reads old) (Store.reads new)
   pub broken : BlamesBroken before (Store.holds old) result

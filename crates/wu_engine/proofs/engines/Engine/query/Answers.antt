@@ -78,11 +78,11 @@ returns-in-Err-clause-damaged g c =
     let holds = g.D.Store.holds c.args.store.now in
     let cause = c.in-Err.ensures.cause in
     rw c.end_with.ensures.trouble (record {
-      damaged = λ blob e. inr (cause.read blob (cc e), cause.damaged blob (cc e));
+      damaged = λ blob e. inr (cause.damaged blob (cc e));
       broken = λ start goes blob e.
           found_is_broken start holds old.files.entries old.parts old.checkpoint blob goes.sound
           (damaged_in holds blob old.files.entries old.tree old.space.ranges c.args.query.now.uid (question_of c.args.query.now.ask)
-          old.parts (cause.damaged blob (cc e)));
+          old.parts (cause.damaged blob (cc e)).1);
     })
 
 -- ---- how it comes out
