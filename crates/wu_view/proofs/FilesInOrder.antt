@@ -1,6 +1,7 @@
--- The files that a walk in the order of paths meets first are those of the view, each at the least of its open paths.
+-- The files that a walk in the order of paths meets, put together by file, are the view: each file is met first at the least
+-- of its open paths.
 use Rattle.std.proofs.Common.{◌≡◌, ℕ, List, [], ◌∷◌, refl, ap, sym, ◌∙◌, subst, true, inl, inr, ⊎_elim}
-use Rattle.std.specs.Prelude.{◌⊎◌, map}
+use Rattle.std.specs.Prelude.{◌⊎◌, ◌==◌, map}
 use Rattle.std.specs.declared.cmp.Ordering.{Ordering}
 use Rattle.std.specs.declared.cmp.Ordering.TheVariants.{Less, Equal, Greater}
 use Rattle.std.specs.Ordering.{nat_cmp, ordering_then}
@@ -16,12 +17,14 @@ use Rattle.wu_base.proofs.SortedLists.{same_sorted, sorted-sorted_once, has-sort
 use Rattle.wu_view.specs.declared.Seen.{Seen}
 use Rattle.wu_view.specs.Views.{first_of, is_readable, least_path, open_paths, path_cmp, seen_as, view_for}
 use Rattle.wu_view.specs.Walks.{Found, walked_whole}
-use Rattle.wu_view.specs.FileLists.{firsts, with_least_path}
+use Rattle.wu_view.specs.Groups.{firsts, grouped, paths_of}
 use Rattle.wu_view.specs.OrderedWalks.{ordered_whole}
 use Rattle.wu_view.proofs.OpenWalks.{found_is}
 use Rattle.wu_view.proofs.ShownFiles.{seen_exact, seen_total, opened_paths, opened_path, path_opened, unsorted, seen_has, has_seen}
+use Rattle.wu_view.proofs.ShownFiles.{has_paths, paths_has}
 use Rattle.wu_view.proofs.LeastPaths.{by_least_path, first_has}
-use Rattle.wu_view.proofs.FirstPaths.{Ascend, IsLeast, first_is_least, firsts_ascend, least_is_first, never_both, path_of_found}
+use Rattle.wu_view.proofs.FirstPaths.{Ascend, IsLeast, first_is_least, firsts_ascend, kept_ascend, least_is_first, never_both}
+use Rattle.wu_view.proofs.FirstPaths.{path_of_found}
 use Rattle.wu_view.proofs.OrderedEntries.{ordered_whole_walked, walked_whole_ordered, whole_ascends}
 
 -- ---- files by path
@@ -50,6 +53,13 @@ by_path (f ∷ files) s = (
       (λ g h. found_before f g (all_has (λ p. path_cmp f.1 p ≡ Less) g.1 (map path_of_found files) s.0 (Has-map path_of_found g files h))),
   by_path files s.1,
 )
+
+-- the file with the least of its paths
+abbrev with_least_path : Seen → Found
+with_least_path seen = (seen.ino, least_path seen)
+
+abbrev with_paths : List (List ℕ) → ℕ → Seen
+with_paths paths ino = record { paths = paths; ino = ino }
 
 -- ---- the first of paths that ascend
 first_is_lowest : (paths : List (List ℕ)) → IsStrictlySortedBy path_cmp paths → (path : List ℕ) → Has path paths
@@ -124,8 +134,44 @@ module _ (fs : FileSystem) (t : IsTree fs) (user : UserRec) where
       by_path (map with_least_path (view_for fs user))
       (subst (λ (l : List (List ℕ)). IsStrictlySortedBy path_cmp l) (sym (least_paths (view_for fs user))) (by_least_path fs t user))
 
-  pub firsts_are_the_view : firsts (ordered_whole fs user) ≡ map with_least_path (view_for fs user)
+  firsts_are_the_view : firsts (ordered_whole fs user) ≡ map with_least_path (view_for fs user)
   firsts_are_the_view =
       same_sorted found_total found_exact (firsts (ordered_whole fs user)) (map with_least_path (view_for fs user))
       (by_path (firsts (ordered_whole fs user)) (firsts_ascend (ordered_whole fs user) (whole_ascends fs t user)))
       shown_ascend first_shown shown_first
+
+  -- ---- all paths of a file
+  grouped_paths : (q : ℕ) → is_readable fs user q ≡ true → paths_of q (ordered_whole fs user) ≡ open_paths fs user q
+  grouped_paths q r =
+      same_sorted nat_list_cmp_total exact_bytes (paths_of q (ordered_whole fs user)) (open_paths fs user q)
+      (kept_ascend (λ f. f.0 == q) (ordered_whole fs user) (whole_ascends fs t user))
+      (open_ascend q)
+      (λ p h. in_open q p (path_opened fs t user q p
+      (ordered_whole_walked fs t user (q, p) (paths_has q p (ordered_whole fs user) h))).0)
+      (λ p h. has_paths q p (ordered_whole fs user) (walked_whole_ordered fs t user (q, p)
+      (opened_path fs t user q p r (sorted_once_has nat_list_cmp_total exact_bytes p (opened_paths fs t user q) h))))
+
+  abbrev with_its_paths : Found → Seen
+  with_its_paths f = record { paths = paths_of f.0 (ordered_whole fs user); ino = f.0 }
+
+  shown_again : (seen : Seen) → Has seen (view_for fs user) → with_its_paths (with_least_path seen) ≡ seen
+  unfolding view_for
+  shown_again seen h =
+      let r = has_seen fs t user seen (sorted_once_has seen_total seen_exact seen (unsorted fs t user) h) in
+      let i : r.0 ≡ seen.ino = ap (λ (x : Seen). x.ino) r.4 in
+      let e : seen_as fs user seen.ino ≡ seen = subst (λ q. seen_as fs user q ≡ seen) i r.4 in
+      let o : is_readable fs user seen.ino ≡ true = subst (λ q. is_readable fs user q ≡ true) i r.2 in
+      let p : with_its_paths (with_least_path seen) ≡ seen_as fs user seen.ino =
+      ap (λ (paths : List (List ℕ)). with_paths paths seen.ino) (grouped_paths seen.ino o) in
+      p ∙ e
+
+  all_again : (view : List Seen) → ((seen : Seen) → Has seen view → with_its_paths (with_least_path seen) ≡ seen)
+      → map with_its_paths (map with_least_path view) ≡ view
+  all_again [] h = refl
+  all_again (seen ∷ view) h =
+      ap (λ (s : Seen). s ∷ map with_its_paths (map with_least_path view)) (h seen (inl refl))
+      ∙ ap (λ (l : List Seen). seen ∷ l) (all_again view (λ s i. h s (inr i)))
+
+  pub grouped_is_the_view : grouped (ordered_whole fs user) ≡ view_for fs user
+  grouped_is_the_view =
+      ap (map with_its_paths) firsts_are_the_view ∙ all_again (view_for fs user) shown_again

@@ -6,7 +6,7 @@ use Rattle.std.specs.List.{AllByRecursion}
 use Rattle.std.specs.List.Sorted.{IsStrictlySortedBy}
 use Rattle.std.proofs.lemmas.Cmp.{tied_itself, nat_list_cmp_total}
 use borrow.Author.Tests.{eqb-true, eq-eqb}
-use Rattle.wu_view.specs.FileLists.{firsts}
+use Rattle.wu_view.specs.Groups.{firsts}
 use Rattle.wu_view.specs.Views.{path_cmp}
 use Rattle.wu_view.specs.Walks.{Found}
 use Rattle.wu_base.proofs.Members.{Has, Has-filter, filter_has, all_has, all_from_has, map_has, Has-map}
@@ -89,7 +89,7 @@ kept_below p P files a = all_from_has P (map path_of_found (filter p files))
     subst P r.1.1 (all_has P (path_of_found r.0) (map path_of_found files) a
     (Has-map path_of_found r.0 files (filter_has p r.0 files r.1.0).0)))
 
-kept_ascend : (p : Found → Bool) (files : List Found) → Ascend files → Ascend (filter p files)
+pub kept_ascend : (p : Found → Bool) (files : List Found) → Ascend files → Ascend (filter p files)
 unfolding IsStrictlySortedBy
 kept_ascend p [] s = tt
 kept_ascend p (f ∷ files) s =

@@ -1,39 +1,20 @@
--- How the paths of directories and files are kept, and made again.
+-- How the paths of directories and links are kept, and made again.
 use Rattle.std.proofs.Common.{◌≡◌, ℕ, zero, suc, ◌+◌, ◌-◌, ◌<◌, ◌≤◌, List, [], ◌∷◌, ◌++◌, length, get_or, refl, ap, sym, ◌∙◌, subst}
-use Rattle.std.proofs.Common.{Bool, true, false, not, cond, ◌||◌, arith, length-append}
-use Rattle.std.specs.Prelude.{◌==◌, map, filter}
-use Rattle.std.specs.List.{AllByRecursion, fold, list_any}
+use Rattle.std.proofs.Common.{arith, length-append}
+use Rattle.std.specs.Prelude.{map}
+use Rattle.std.specs.List.{AllByRecursion, fold}
 use Rattle.std.proofs.Math.Seq.{get_or-append_seam}
 use Rattle.std.proofs.lemmas.List.{get_or_append_left}
-use Rattle.std.proofs.lemmas.List.Elements.{filter-append}
 use Rattle.std.proofs.lemmas.List.Sums.{fold-append}
 use Rattle.wu_view.specs.Walks.{Found}
-use Rattle.wu_view.specs.declared.file_lists.Directory.{Directory}
-use Rattle.wu_view.specs.declared.file_lists.FileLink.{FileLink}
-use Rattle.wu_view.specs.FileLists.{file_at, first_links, firsts, path_at, paths_of_directories, with_directory}
+use Rattle.wu_view.specs.declared.links.Directory.{Directory}
+use Rattle.wu_view.specs.declared.links.FileLink.{FileLink}
+use Rattle.wu_view.specs.LinkLists.{file_at, path_at, paths_of_directories, with_directory}
 
 -- ---- lists
 all_snoc : {X : Type 0} (P : X → Type 0) (xs : List X) (x : X) → AllByRecursion P xs → P x → AllByRecursion P (xs ++ x ∷ [])
 all_snoc P [] x a p = (p, tt)
 all_snoc P (y ∷ ys) x a p = (a.0, all_snoc P ys x a.1 p)
-
-all_filter : {X : Type 0} (P : X → Type 0) (q : X → Bool) (xs : List X) → AllByRecursion P xs → AllByRecursion P (filter q xs)
-all_filter P q [] a = tt
-all_filter P q (x ∷ xs) a =
-    elim (q x) as (λ b. AllByRecursion P (cond b (x ∷ filter q xs) (filter q xs))) [
-      | true ↦ (a.0, all_filter P q xs a.1)
-      | false ↦ all_filter P q xs a.1
-    ]
-
-map_filter : {X Y : Type 0} (f : X → Y) (q : Y → Bool) (xs : List X) → map f (filter (λ x. q (f x)) xs) ≡ filter q (map f xs)
-map_filter f q [] = refl
-map_filter {X} {Y} f q (x ∷ xs) =
-    elim (q (f x)) as
-    (λ b. map f (cond b (x ∷ filter (λ x. q (f x)) xs) (filter (λ x. q (f x)) xs))
-    ≡ cond b (f x ∷ filter q (map f xs)) (filter q (map f xs))) [
-      | true ↦ ap (λ (l : List Y). f x ∷ l) (map_filter f q xs)
-      | false ↦ map_filter f q xs
-    ]
 
 past_end : (paths : List (List ℕ)) (k : ℕ) → length paths ≤ k → get_or paths k [] ≡ []
 past_end [] k h = refl
@@ -126,71 +107,26 @@ none_there directories place z h =
     let n : length (paths_of_directories directories) ≡ suc (length directories) = length_paths directories in
     past_end (paths_of_directories directories) place (omega arith)
 
--- ---- files
-pub files_stay : (directories : List Directory) (d : Directory) (links : List FileLink)
-    → AllByRecursion (λ link. link.directory ≤ length directories) links
+-- ---- links
+pub links_stay : (directories : List Directory) (d : Directory) (links : List FileLink)
+    → AllByRecursion (λ found. found.link.directory ≤ length directories) links
     → map (file_at (paths_of_directories (directories ++ d ∷ []))) links ≡ map (file_at (paths_of_directories directories)) links
-files_stay directories d [] a = refl
-files_stay directories d (link ∷ links) a =
-    let paths : List (List ℕ) = paths_of_directories directories in
-    let more : List (List ℕ) = paths_of_directories (directories ++ d ∷ []) in
+links_stay directories d [] a = refl
+links_stay directories d (found ∷ links) a =
     let n : length (paths_of_directories directories) ≡ suc (length directories) = length_paths directories in
-    let low : link.directory ≤ length directories = a.0 in
-    let within : link.directory < length (paths_of_directories directories) = omega arith in
-    let e : path_at (paths_of_directories (directories ++ d ∷ [])) link.directory
-    ≡ path_at (paths_of_directories directories) link.directory =
-    ap (λ (x : List (List ℕ)). path_at x link.directory) (paths_snoc directories d)
+    let low : found.link.directory ≤ length directories = a.0 in
+    let within : found.link.directory < length (paths_of_directories directories) = omega arith in
+    let e : path_at (paths_of_directories (directories ++ d ∷ [])) found.link.directory
+    ≡ path_at (paths_of_directories directories) found.link.directory =
+    ap (λ (x : List (List ℕ)). path_at x found.link.directory) (paths_snoc directories d)
     ∙ get_or_append_left (paths_of_directories directories) ((path_at (paths_of_directories directories) d.parent ++ d.name) ∷ []) []
-    link.directory within in
-    ap (λ (x : List ℕ). (link.ino, x ++ link.name) ∷ map (file_at (paths_of_directories (directories ++ d ∷ []))) links) e
-    ∙ ap (λ (l : List Found). file_at (paths_of_directories directories) link ∷ l) (files_stay directories d links a.1)
+    found.link.directory within in
+    ap (λ (x : List ℕ). (found.ino, x ++ found.link.name) ∷ map (file_at (paths_of_directories (directories ++ d ∷ []))) links) e
+    ∙ ap (λ (l : List Found). file_at (paths_of_directories directories) found ∷ l) (links_stay directories d links a.1)
 
-pub one_more : (n : ℕ) (links : List FileLink) (link : FileLink) → AllByRecursion (λ link. link.directory ≤ n) links → link.directory ≤ n
-    → AllByRecursion (λ link. link.directory ≤ n) (links ++ link ∷ [])
-one_more n links link a h = all_snoc (λ link. link.directory ≤ n) links link a h
-
--- ---- the first link of each file
-kept_once : (b same : Bool) (x : FileLink)
-    → cond b [] (cond (not same) (x ∷ []) []) ≡ cond (same || b) [] (x ∷ [])
-kept_once true true x = refl
-kept_once true false x = refl
-kept_once false true x = refl
-kept_once false false x = refl
-
-filter_cond : (q : FileLink → Bool) (b : Bool) (x : FileLink) → filter q (cond b [] (x ∷ [])) ≡ cond b [] (cond (q x) (x ∷ []) [])
-filter_cond q true x = refl
-filter_cond q false x = refl
-
-pub first_links-snoc : (links : List FileLink) (x : FileLink)
-    → first_links (links ++ x ∷ []) ≡ first_links links ++ cond (list_any (λ link. x.ino == link.ino) links) [] (x ∷ [])
-first_links-snoc [] x = refl
-first_links-snoc (y ∷ links) x =
-    let others : FileLink → Bool = λ (other : FileLink). not (other.ino == y.ino) in
-    let b : Bool = list_any (λ link. x.ino == link.ino) links in
-    let e : filter (λ (other : FileLink). not (other.ino == y.ino)) (first_links (links ++ x ∷ []))
-    ≡ filter (λ (other : FileLink). not (other.ino == y.ino)) (first_links links)
-    ++ cond (x.ino == y.ino || list_any (λ link. x.ino == link.ino) links) [] (x ∷ []) =
-    ap (λ (l : List FileLink). filter (λ (other : FileLink). not (other.ino == y.ino)) l) (first_links-snoc links x)
-    ∙ filter-append (λ (other : FileLink). not (other.ino == y.ino)) (first_links links)
-    (cond (list_any (λ link. x.ino == link.ino) links) [] (x ∷ []))
-    ∙ ap (λ (l : List FileLink). filter (λ (other : FileLink). not (other.ino == y.ino)) (first_links links) ++ l)
-    (filter_cond (λ (other : FileLink). not (other.ino == y.ino)) (list_any (λ link. x.ino == link.ino) links) x
-    ∙ kept_once (list_any (λ link. x.ino == link.ino) links) (x.ino == y.ino) x) in
-    ap (λ (l : List FileLink). y ∷ l) e
-
-pub all_firsts : (n : ℕ) (links : List FileLink) → AllByRecursion (λ link. link.directory ≤ n) links
-    → AllByRecursion (λ link. link.directory ≤ n) (first_links links)
-all_firsts n [] a = tt
-all_firsts n (link ∷ links) a =
-    (a.0, all_filter (λ link. link.directory ≤ n) (λ other. not (other.ino == link.ino)) (first_links links) (all_firsts n links a.1))
-
-pub firsts_map : (paths : List (List ℕ)) (links : List FileLink)
-    → map (file_at paths) (first_links links) ≡ firsts (map (file_at paths) links)
-firsts_map paths [] = refl
-firsts_map paths (link ∷ links) =
-    ap (λ (l : List Found). file_at paths link ∷ l)
-    (map_filter (file_at paths) (λ (other : Found). not (other.0 == link.ino)) (first_links links)
-    ∙ ap (λ (l : List Found). filter (λ (other : Found). not (other.0 == link.ino)) l) (firsts_map paths links))
+pub one_more : (n : ℕ) (links : List FileLink) (found : FileLink) → AllByRecursion (λ found. found.link.directory ≤ n) links
+    → found.link.directory ≤ n → AllByRecursion (λ found. found.link.directory ≤ n) (links ++ found ∷ [])
+one_more n links found a h = all_snoc (λ (x : FileLink). x.link.directory ≤ n) links found a h
 
 -- ---- turns
 pub place_is : (before after : List Directory) (d : Directory) (paths : List (List ℕ)) (n : ℕ) → n ≡ length after
@@ -205,15 +141,3 @@ pub is_there : (directories : List Directory) (paths : List (List ℕ)) (k : ℕ
 is_there directories paths k p h =
     let v : length (paths_of_directories directories) ≡ length paths = ap (λ (l : List (List ℕ)). length l) p in
     omega (arith, length_paths directories)
-
-swap_or : (a b c : Bool) → (a || (b || c)) ≡ (b || (a || c))
-swap_or true true c = refl
-swap_or true false c = refl
-swap_or false true c = refl
-swap_or false false c = refl
-
-pub any_snoc : (q : ℕ) (links : List FileLink) (x : FileLink)
-    → list_any (λ link. q == link.ino) (links ++ x ∷ []) ≡ (q == x.ino || list_any (λ link. q == link.ino) links)
-any_snoc q [] x = refl
-any_snoc q (y ∷ links) x =
-    ap (λ b. (q == y.ino) || b) (any_snoc q links x) ∙ swap_or (q == y.ino) (q == x.ino) (list_any (λ link. q == link.ino) links)

@@ -9,3 +9,4 @@ pub mod FirstPaths
 pub mod OrderedEntries
 pub mod FilesInOrder
 pub mod KeptPaths
+pub mod GroupedLinks

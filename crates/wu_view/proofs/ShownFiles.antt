@@ -59,14 +59,14 @@ pub seen_total : IsTotalOrder seen_cmp
 seen_total = then_total (on_total (λ (s : Seen). s.paths) (lists_total nat_list_cmp_total)) (on_total (λ (s : Seen). s.ino) nat_cmp_total)
 
 -- ---- a file's paths
-paths_has : (q : ℕ) (path : List ℕ) (found : List Found) → Has path (paths_of q found) → Has (q, path) found
+pub paths_has : (q : ℕ) (path : List ℕ) (found : List Found) → Has path (paths_of q found) → Has (q, path) found
 paths_has q path found h =
     let r = map_has (λ (f : Found). f.1) path (filter (λ f. f.0 == q) found) h in
     let f = filter_has (λ f. f.0 == q) r.0 found r.1.0 in
     let e : (q, path) ≡ r.0 = found_is q path r.0 (sym (eqb-true r.0.0 q f.1)) (sym r.1.1) in
     subst (λ (x : Found). Has x found) (sym e) f.0
 
-has_paths : (q : ℕ) (path : List ℕ) (found : List Found) → Has (q, path) found → Has path (paths_of q found)
+pub has_paths : (q : ℕ) (path : List ℕ) (found : List Found) → Has (q, path) found → Has path (paths_of q found)
 has_paths q path found h = Has-map (λ (f : Found). f.1) (q, path) (filter (λ f. f.0 == q) found)
     (Has-filter (λ f. f.0 == q) (q, path) found h (eq-eqb q q refl))
 

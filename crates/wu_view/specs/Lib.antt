@@ -5,6 +5,7 @@ pub mod Views
 
 pub mod Walks
 pub mod Groups
--- files without their paths, and a walk in the order of paths
-pub mod FileLists
+-- links and a view without their paths, and a walk in the order of paths
+pub mod LinkLists
+pub mod KeptViews
 pub mod OrderedWalks

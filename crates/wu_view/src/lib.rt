@@ -7,18 +7,18 @@ ghost use Rattle.std.specs.Prelude.{◌≡◌, ◌↔◌, ℕ, true, IfOk, IsTru
 ghost use Rattle.std.specs.List.{Contains};
 ghost use Rattle.std.specs.List.Sorted.{IsStrictlySortedBy};
 ghost use Rattle.std.specs.Ordering.{nat_cmp};
-ghost use Rattle.wu_view.specs.FileLists.{with_least_path};
 ghost use Rattle.wu_view.specs.Views.{Grants, IsOpenPath, is_readable, least_path, open_paths, path_cmp, user_with, view_of};
 ghost use Rattle.wu_access.specs.declared.UserRec.{UserRec};
 ghost use Rattle.wu_tree.specs.FileSystems.{groups_of, is_file};
 
-mod file_lists;
 mod groups;
+mod links;
 mod ordered_walks;
+mod views;
 mod walks;
 
-pub use file_lists::FileList;
 use std::alloc::Global;
+pub use views::View;
 use wu_access::{UserRec, Want, check_is_decided_by_cases};
 use wu_base::{Bytes, Ino, NoMemory, Sequence, Uid, sorted_once};
 use wu_tree::Tree;
@@ -54,22 +54,21 @@ pub fn searchable(alloc: Global, tree: &Tree, uid: Uid) -> Result<Vec<Seen>, NoM
     Ok(view)
 }
 
-/// The files that a user may search, in the order of her view, each with the least of its open
-/// paths. Says of them what `searchable` says, and no path is made until it is asked for. The only
-/// error is out of memory.
+/// A user's view, as `searchable` gives it, kept without the paths: none is made until it is asked
+/// for. The only error is out of memory.
 ///
 /// Goes once through the entries of each directory that the user may reach, and of no other, so
 /// the time is near linear in these entries. The memory grows with the entries of the directories
-/// on one path and with what the list keeps; while it is made, a file with `n` hard links counts
-/// `n` times.
-pub fn files_of(alloc: Global, tree: &Tree, uid: Uid) -> Result<FileList, NoMemory>
-    ensures { IfOk result (λ list. list.files ≡ map with_least_path (view_of tree.now uid)) }
+/// on one path and with what the view keeps: a file with `n` hard links counts `n` times, with
+/// names and not paths.
+pub fn view_of(alloc: Global, tree: &Tree, uid: Uid) -> Result<View, NoMemory>
+    ensures { IfOk result (λ view. view ≡ view_of tree.now uid) }
 {
     tree.keeps_the_rules();
     let user = user_of(alloc, tree, uid)?;
     let links = ordered_walks::open_links_in_order(alloc, tree, &user)?;
-    let list = links.firsts(alloc)?;
-    Ok(list)
+    let kept = View::of_links(alloc, links)?;
+    Ok(kept)
 }
 
 /// The user of that number with her groups; one who was never given has none.

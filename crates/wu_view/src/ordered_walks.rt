@@ -4,11 +4,11 @@
 ghost use Rattle.std.specs.Prelude.{◌≡◌, ◌++◌, ◌<◌, length, OnOk, IfOk, map};
 ghost use Rattle.std.specs.Ordering.{nat_cmp};
 ghost use Rattle.std.specs.List.Sorted.{IsStrictlySortedBy};
-ghost use Rattle.wu_view.specs.FileLists.{Extends, path_at};
+ghost use Rattle.wu_view.specs.LinkLists.{Extends, path_at};
 ghost use Rattle.wu_view.specs.OrderedWalks.{directory_entry, entries_in_order, file_entry};
 ghost use Rattle.wu_view.specs.OrderedWalks.{open_entries, ordered, ordered_whole};
 
-use crate::file_lists::FileList;
+use crate::links::LinkList;
 use crate::walks::{Met, meet};
 use std::alloc::Global;
 use std::collections::BTreeMap;
@@ -32,15 +32,15 @@ pub(crate) fn open_links_in_order(
     alloc: Global,
     tree: &Tree,
     user: &UserRec,
-) -> Result<FileList, NoMemory>
+) -> Result<LinkList, NoMemory>
     requires { IsStrictlySortedBy nat_cmp user.now.groups }
-    ensures { IfOk result (λ list. list.files ≡ ordered_whole tree.now user.now) }
+    ensures { IfOk result (λ list. list.links ≡ ordered_whole tree.now user.now) }
 {
-    let mut files = FileList::new(alloc);
+    let mut list = LinkList::new(alloc);
     if let Met::Passable = meet(tree, user, ROOT) {
-        walk(alloc, tree, user, DEPTH_MAX, ROOT, 0, &mut files)?;
+        walk(alloc, tree, user, DEPTH_MAX, ROOT, 0, &mut list)?;
     }
-    Ok(files)
+    Ok(list)
 }
 
 /// Adds the links to files that are found in a directory, which has that place among the
@@ -52,14 +52,14 @@ fn walk(
     depth: usize,
     directory: Ino,
     place: usize,
-    files: &mut FileList,
+    list: &mut LinkList,
 ) -> Result<(), NoMemory>
     requires groups { IsStrictlySortedBy nat_cmp user.now.groups }
-    requires place { place < length files.old.directories }
-    ensures files { OnOk result (files.new.files
-        ≡ files.old.files
-        ++ ordered tree.now user.now depth directory (path_at files.old.directories place)) }
-    ensures directories { OnOk result (Extends files.old.directories files.new.directories) }
+    requires place { place < length list.old.directories }
+    ensures links { OnOk result (list.new.links
+        ≡ list.old.links
+        ++ ordered tree.now user.now depth directory (path_at list.old.directories place)) }
+    ensures directories { OnOk result (Extends list.old.directories list.new.directories) }
 {
     if depth == 0 {
         return Ok(());
@@ -71,11 +71,11 @@ fn walk(
             ino,
         } = entry;
         if !is_directory {
-            files.add_file(ino, place, name)?;
+            list.add_link(ino, place, name)?;
             continue;
         }
-        let below = files.add_directory(place, name)?;
-        walk(alloc, tree, user, depth - 1, ino, below, files)?;
+        let below = list.add_directory(place, name)?;
+        walk(alloc, tree, user, depth - 1, ino, below, list)?;
     }
     Ok(())
 }

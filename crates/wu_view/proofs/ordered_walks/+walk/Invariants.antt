@@ -1,6 +1,6 @@
 use Rattle.std.proofs.Common.{◌≡◌, ◌-◌, ◌++◌}
 use Rattle.std.specs.List.{flat_map}
-use Rattle.wu_view.specs.FileLists.{Extends, path_at}
+use Rattle.wu_view.specs.LinkLists.{Extends, path_at}
 use Rattle.wu_view.specs.OrderedWalks.{found_by, ordered}
 use Rattle.wu_view.proofs.ordered_walks.+walk.Given as goal
 
@@ -9,7 +9,7 @@ decreases-walk l = l.depth
 
 abbrev pub invariant-loop-entry : goal.invariant-loop-entry
 invariant-loop-entry l = record {
-  files : l.files.files ≡ l.fn.files.files
-      ++ flat_map (found_by (ordered l.tree l.user (l.depth - 1)) (path_at l.fn.files.directories l.place)) l.yielded;
-  directories : Extends l.fn.files.directories l.files.directories;
+  links : l.list.links ≡ l.fn.list.links
+      ++ flat_map (found_by (ordered l.tree l.user (l.depth - 1)) (path_at l.fn.list.directories l.place)) l.yielded;
+  directories : Extends l.fn.list.directories l.list.directories;
 }

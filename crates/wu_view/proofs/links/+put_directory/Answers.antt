@@ -1,8 +1,8 @@
 use Rattle.std.proofs.Common.{◌<◌, ◌∙◌, ◌++◌, List, ℕ, ap, append_assoc, arith, sym}
 use Rattle.std.proofs.lemmas.List.{append-nil}
-use Rattle.wu_view.specs.FileLists.{path_at, paths_of_directories}
+use Rattle.wu_view.specs.LinkLists.{path_at, paths_of_directories}
 use Rattle.wu_view.proofs.KeptPaths.{none_there, path_alone, path_below, root_is}
-use Rattle.wu_view.proofs.file_lists.+put_directory.Goals as goal
+use Rattle.wu_view.proofs.links.+put_directory.Goals as goal
 
 pub returns-then-directory-eq0 : goal.returns-then-directory-eq0
 returns-then-directory-eq0 t c =

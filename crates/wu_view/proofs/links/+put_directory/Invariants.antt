@@ -1,4 +1,4 @@
-use Rattle.wu_view.proofs.file_lists.+put_directory.Given as goal
+use Rattle.wu_view.proofs.links.+put_directory.Given as goal
 
 abbrev pub decreases-put_directory : goal.decreases-put_directory
 decreases-put_directory l = l.directory
