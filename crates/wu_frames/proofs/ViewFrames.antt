@@ -1,13 +1,14 @@
 -- Frames of a view: their numbers, their ranges, and their order by address.
-use Rattle.std.proofs.Common.{◌≡◌, ℕ, suc, ◌+◌, ◌<◌, ◌≤◌, ◌^◌, cond, List, [], ◌∷◌, ◌++◌, length, get_or, take, refl, ap, sym, ◌∙◌, subst}
+use Rattle.std.proofs.Common.{◌≡◌, ℕ, zero, suc, ◌+◌, ◌<◌, ◌≤◌, ◌^◌, cond, List, [], ◌∷◌, ◌++◌, length, get_or, take, refl, ap, sym, ◌∙◌, subst}
 use Rattle.std.proofs.Common.{⊎_elim, arith}
-use Rattle.std.specs.Prelude.{◌==◌, Option, None, Some, count_by, map, filter_map, option_map, IsPermutation}
+use Rattle.std.specs.Prelude.{◌==◌, Option, None, Some, count_by, map, filter_map, option_map, slice_get, IsPermutation}
 use Rattle.std.specs.Option.{option_to_list}
 use Rattle.std.specs.List.{AllByRecursion, cons_option, enumerate_from}
 use Rattle.std.specs.List.Sorted.{IsNonDecreasingBy}
 use Rattle.std.proofs.lemmas.Bool.{eq-eqb}
-use Rattle.std.proofs.lemmas.List.{append-nil, take_more, length-take-le}
+use Rattle.std.proofs.lemmas.List.{take_more, length-take-le}
 use Rattle.std.proofs.lemmas.List.Elements.{filter_map-append, recursion_from_All}
+use Rattle.std.proofs.lemmas.Option.{get_or_from_slice_get, none-some, same_Some, slice_get_within}
 use Rattle.std.proofs.lemmas.List.Sums.{sum_by-cons}
 use Rattle.std.proofs.lemmas.List.Sorted.{sum_by-IsPermutation, Contains-permutation, IsPermutation-sym}
 use Rattle.wu_base.specs.declared.addresses.Range.{Range}
@@ -45,6 +46,7 @@ frames_in-more ranges view place d h =
     ∙ filter_map-append (frame_of ranges) (enumerate_from 0 (take place view)) ((place, get_or view place d) ∷ [])
     ∙ ap (λ (l : List Frame). frames_in ranges (take place view) ++ l) (one-map (frame_of ranges) (place, get_or view place d))
 
+-- with the file at that place
 module _ (place : ℕ) (ranges : Ranges) (view : List Seen) (frames : List Frame) (s : AreMadeUpTo place ranges view frames)
     (file : Seen) (within : place < length view) (is : file ≡ get_or view place file) (fits : file.ino < 2 ^ 32) where
   numbers-more : AllByRecursion (λ (x : Seen). x.ino < 2 ^ 32) (take (place + 1) view)
@@ -53,8 +55,8 @@ module _ (place : ℕ) (ranges : Ranges) (view : List Seen) (frames : List Frame
       (sym (take_more view place file within ∙ ap (λ (x : Seen). take place view ++ x ∷ []) (sym is)))
       (each-push (λ (x : Seen). x.ino < 2 ^ 32) (take place view) file s.numbers fits)
 
-  pub place-fits : IsOnce view → place < 2 ^ 32
-  place-fits o =
+  few-places : IsOnce view → place < 2 ^ 32
+  few-places o =
       omega (
         arith,
         few-from_once (take (place + 1) view) (2 ^ 32) (take-once view (place + 1) o) numbers-more,
@@ -64,27 +66,45 @@ module _ (place : ℕ) (ranges : Ranges) (view : List Seen) (frames : List Frame
   frame-made : frame_of ranges (place, get_or view place file) ≡ option_map (frame_with place file.ino) (range_of ranges file.ino)
   frame-made = ap (λ (x : Seen). frame_of ranges (place, x)) (sym is)
 
-  pub made-more_some : (range : Range) → range_of ranges file.ino ≡ Some range
-      → AreMadeUpTo (place + 1) ranges view (frames ++ record { range = range; ino = file.ino; place = place } ∷ [])
-  made-more_some range e = record {
+  one-more : (now : List Frame)
+      → now ≡ frames ++ option_to_list (option_map (frame_with place file.ino) (range_of ranges file.ino))
+      → AreMadeUpTo (place + 1) ranges view now
+  one-more now put = record {
     made =
-        ap (λ (l : List Frame). l ++ frame_with place file.ino range ∷ []) s.made
+        put
+        ∙ ap (λ (l : List Frame). l ++ option_to_list (option_map (frame_with place file.ino) (range_of ranges file.ino))) s.made
         ∙ sym (frames_in-more ranges view place file within
-        ∙ ap (λ (o : Option Frame). frames_in ranges (take place view) ++ option_to_list o)
-        (frame-made ∙ ap (λ (o : Option Range). option_map (frame_with place file.ino) o) e));
+        ∙ ap (λ (o : Option Frame). frames_in ranges (take place view) ++ option_to_list o) frame-made);
     numbers = numbers-more;
   }
 
-  pub made-more_none : range_of ranges file.ino ≡ None → AreMadeUpTo (place + 1) ranges view frames
-  made-more_none e = record {
-    made =
-        s.made
-        ∙ sym (append-nil (frames_in ranges (take place view)))
-        ∙ sym (frames_in-more ranges view place file within
-        ∙ ap (λ (o : Option Frame). frames_in ranges (take place view) ++ option_to_list o)
-        (frame-made ∙ ap (λ (o : Option Range). option_map (frame_with place file.ino) o) e));
-    numbers = numbers-more;
-  }
+file-found : (found : Option Seen) (ino : ℕ) → Some ino ≡ option_map (λ (x : Seen). x.ino) found
+    → (file : Seen) × (found ≡ Some file) × (ino ≡ file.ino)
+file-found None ino e = absurd (none-some ino (sym e))
+file-found (Some file) ino e = (file, refl, same_Some ino file.ino e)
+
+-- there is a file at each place below their number
+pub file-there : (view : List Seen) (place : ℕ) → place < length view → None ≡ option_map (λ (x : Seen). x.ino) (slice_get view place) → ⊥
+file-there [] place within e = absurd (omega (arith, within))
+file-there (file ∷ view) zero within e = none-some file.ino e
+file-there (file ∷ view) (suc place) within e = file-there view place (omega (arith, within)) e
+
+-- where the file at that place has that number
+module _ (place : ℕ) (ranges : Ranges) (view : List Seen) (frames : List Frame) (s : AreMadeUpTo place ranges view frames)
+    (ino : ℕ) (there : Some ino ≡ option_map (λ (x : Seen). x.ino) (slice_get view place)) (fits : ino < 2 ^ 32) where
+  pub place-fits : IsOnce view → place < 2 ^ 32
+  place-fits once =
+      let f = file-found (slice_get view place) ino there in
+      few-places place ranges view frames s f.0 (slice_get_within view place f.0 f.1)
+      (sym (get_or_from_slice_get view place f.0 f.0 f.1)) (subst (λ (n : ℕ). n < 2 ^ 32) f.2 fits) once
+
+  pub made-more : (now : List Frame) → now ≡ frames ++ option_to_list (option_map (frame_with place ino) (range_of ranges ino))
+      → AreMadeUpTo (place + 1) ranges view now
+  made-more now put =
+      let f = file-found (slice_get view place) ino there in
+      one-more place ranges view frames s f.0 (slice_get_within view place f.0 f.1)
+      (sym (get_or_from_slice_get view place f.0 f.0 f.1)) (subst (λ (n : ℕ). n < 2 ^ 32) f.2 fits) now
+      (subst (λ (n : ℕ). now ≡ frames ++ option_to_list (option_map (frame_with place n) (range_of ranges n))) f.2 put)
 
 -- ---- what holds of each frame
 

@@ -16,7 +16,7 @@ pub use links::{ChangedLink, LinkChanges, links_changed};
 pub use mending::MENDS_MAX;
 pub use permissions::copied_acl;
 use wu_base::{Ino, Range, Sequence};
-use wu_view::Seen;
+use wu_view::View;
 
 /// The live range of a file that a user may search.
 #[derive(Clone, Copy, Debug, PartialEq, Eq)]
@@ -28,12 +28,12 @@ pub struct Frame {
 }
 
 /// The frames of a user, with her view.
-#[derive(Debug, Drop)]
+#[derive(Drop)]
 pub struct Frames {
     /// Ascending by address.
     pub by_address: Sequence<Frame>,
     /// Her view: the files that she may search, by their least open paths.
-    pub seen: Sequence<Seen>,
+    pub seen: View,
     /// The ranges of the frames, ascending.
     pub ranges: Sequence<Range>,
     /// How many addresses the ranges have together.

@@ -1,6 +1,8 @@
 //! Frames, made of a view and the live ranges.
-ghost use Rattle.std.specs.Prelude.{◌≡◌, ◌≤◌, ◌<◌, ◌^◌, ◌==◌, ℕ, IfOk, IsPermutation, count_by, map, sum_by, length};
+ghost use Rattle.std.specs.Prelude.{◌≡◌, ◌≤◌, ◌<◌, ◌^◌, ◌++◌, ◌==◌, ℕ, IfOk, OnOk, IsPermutation, count_by, map, option_map, sum_by, length};
 ghost use Rattle.std.specs.List.Sorted.{IsNonDecreasingBy};
+ghost use Rattle.std.specs.Option.{option_to_list};
+ghost use Rattle.wu_space.specs.Addresses.{range_of};
 ghost use Rattle.wu_frames.specs.UserFrames.{AreFrames, frame_with, frames_in, length_of};
 
 use crate::{Frame, Frames};
@@ -8,7 +10,7 @@ use std::alloc::Global;
 use wu_base::{Ino, NoMemory, Range, Sequence, Uid};
 use wu_space::Space;
 use wu_tree::Tree;
-use wu_view::{Seen, searchable};
+use wu_view::{View, view_of};
 
 /// The frames of the user, made anew.
 pub(crate) fn made(alloc: Global, tree: &Tree, space: &Space, uid: Uid) -> Result<Frames, NoMemory>
@@ -16,13 +18,13 @@ pub(crate) fn made(alloc: Global, tree: &Tree, space: &Space, uid: Uid) -> Resul
     ensures anew { IfOk result (λ frames. frames.mends ≡ 0) }
 {
     space.keeps_the_rules();
-    let seen = searchable(alloc, tree, uid)?;
-    let by_address = by_address(alloc, space, seen.as_slice())?;
+    let seen = view_of(alloc, tree, uid)?;
+    let by_address = by_address(alloc, space, &seen)?;
     let ranges = ranges_of(alloc, by_address.as_slice())?;
     let total = length(ranges.as_slice());
     Ok(Frames {
         by_address: Sequence::from(by_address),
-        seen: Sequence::from(seen),
+        seen,
         ranges: Sequence::from(ranges),
         total,
         mends: 0,
@@ -30,7 +32,7 @@ pub(crate) fn made(alloc: Global, tree: &Tree, space: &Space, uid: Uid) -> Resul
 }
 
 /// The frames of the files, in the order of their first addresses.
-fn by_address(alloc: Global, space: &Space, seen: &[Seen]) -> Result<Vec<Frame>, NoMemory>
+fn by_address(alloc: Global, space: &Space, seen: &View) -> Result<Vec<Frame>, NoMemory>
     requires { (ino : ℕ) → count_by (λ file. file.ino == ino) seen.now ≤ 1 }
     ensures frames { IfOk result (λ frames. IsPermutation (frames_in space.now.ranges seen.now) frames.items) }
     ensures order { IfOk result (λ frames. IsNonDecreasingBy (λ frame. frame.range.start) frames.items) }
@@ -42,18 +44,30 @@ fn by_address(alloc: Global, space: &Space, seen: &[Seen]) -> Result<Vec<Frame>,
 
 /// The frames of the files, in the order of the files. A file's number has 32 bits and no file is there
 /// twice, so its place has 32 bits too.
-fn in_view_order(alloc: Global, space: &Space, seen: &[Seen]) -> Result<Vec<Frame>, NoMemory>
+fn in_view_order(alloc: Global, space: &Space, seen: &View) -> Result<Vec<Frame>, NoMemory>
     requires { (ino : ℕ) → count_by (λ file. file.ino == ino) seen.now ≤ 1 }
     ensures { IfOk result (λ frames. frames.items ≡ frames_in space.now.ranges seen.now) }
 {
     let mut frames = Vec::new(alloc);
-    for (place, file) in seen.iter().enumerate() {
-        match space.range_of(file.ino) {
-            Some(range) => frames.push(frame_at(place, file.ino, range))?,
+    for place in 0..seen.len() {
+        match seen.ino_at(place) {
+            Some(ino) => put_frame(&mut frames, space, place, ino)?,
             None => {}
         }
     }
     Ok(frames)
+}
+
+/// Puts the frame of the file at that place of the view at the end, where the file has a live range.
+fn put_frame(frames: &mut Vec<Frame>, space: &Space, place: usize, ino: Ino) -> Result<(), NoMemory>
+    requires { place < 2 ^ 32 }
+    ensures { OnOk result (frames.new.items
+        ≡ frames.old.items ++ option_to_list (option_map (frame_with place ino) (range_of space.now.ranges ino))) }
+{
+    match space.range_of(ino) {
+        Some(range) => Ok(frames.push(frame_at(place, ino, range))?),
+        None => Ok(()),
+    }
 }
 
 /// The frame of the file at that place of the view.
