@@ -1,7 +1,7 @@
 -- Which blocks are kept after one was asked for.
 use Rattle.std.proofs.Common.{◌≡◌, ℕ, zero, suc, ◌+◌, ◌-◌, ◌<◌, ◌≤◌, ◌==◌, Bool, true, false, cond, List, [], ◌∷◌, filter, length, take}
 use Rattle.std.proofs.Common.{refl, ap, sym, ◌∙◌, subst, arith}
-use Rattle.std.specs.Prelude.{Option, None, Some, is_some, not, ◌||◌}
+use Rattle.std.specs.Prelude.{Option, None, Some, is_some, not, slice_get, ◌||◌}
 use Rattle.std.specs.Option.{option_map_or}
 use Rattle.std.specs.List.{AllByRecursion, IsDistinct, list_any}
 use Rattle.std.specs.Map.{keys_of, lookup, lookup_entry, remove_entry}
@@ -236,3 +236,34 @@ missing-none kept block e = rw e refl
 
 pub missing-one : (kept : List Block) (block : Block) → list_any (is_same block) kept ≡ false → missing kept block ≡ block ∷ []
 missing-one kept block e = rw e refl
+
+-- ---- the block that was asked for last
+
+module _ (block : Block) (entries : List (Block × List ℕ)) (cap : ℕ) (older : List Block) (some : 0 < cap)
+    (keys : keys_of entries ≡ asked cap older block) where
+  first_key : keys_of entries ≡ block ∷ take (cap - 1) (filter (λ other. not (is_same block other)) older)
+  first_key = keys ∙ sym (take-first block cap (filter (λ other. not (is_same block other)) older) some)
+
+  pub never-empty : slice_get entries 0 ≡ None → ⊥
+  never-empty none = no-first entries first_key none
+    where
+      no-first : {k : Block} {ks : List Block} (es : List (Block × List ℕ)) → keys_of es ≡ k ∷ ks → slice_get es 0 ≡ None → ⊥
+      no-first [] e n = cc
+      no-first (x ∷ es) e n = cc
+
+  pub first-there : (entry : Block × List ℕ) → Some entry ≡ slice_get entries 0
+      → (later : List (Block × List ℕ)) × (entries ≡ (block, entry.1) ∷ later)
+  first-there entry there = begun entries first_key there
+    where
+      begun : {ks : List Block} (es : List (Block × List ℕ)) → keys_of es ≡ block ∷ ks → Some entry ≡ slice_get es 0
+          → (later : List (Block × List ℕ)) × (es ≡ (block, entry.1) ∷ later)
+      begun [] e t = absurd cc
+      begun (x ∷ es) e t =
+          let key : x.0 ≡ block = cc in
+          let same : entry ≡ x = cc in
+          (es, ap (λ (k : Block). (k, x.1) ∷ es) key ∙ ap (λ (y : Block × List ℕ). (block, y.1) ∷ es) (sym same))
+
+pub first-checked : (entries later : List (Block × List ℕ)) (entry : Block × List ℕ) → AllByRecursion IsChecked entries
+    → entries ≡ entry ∷ later → IsChecked entry
+first-checked entries later entry a e =
+    let all : AllByRecursion IsChecked (entry ∷ later) = subst (AllByRecursion IsChecked) e a in all.0

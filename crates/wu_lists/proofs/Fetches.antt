@@ -13,7 +13,7 @@ use Rattle.wu_vbyte.proofs.BlockLemmas.{block_same}
 use Rattle.wu_lists.specs.declared.blocks.Block.{Block}
 use Rattle.wu_lists.specs.Ascending.{AscendBetween}
 use Rattle.wu_lists.specs.Blocks.{HasBytes, IsSpelledIn, IsSpelling, bytes_of, meets}
-use Rattle.wu_lists.specs.Fetching.{AreFetched, HasBlock}
+use Rattle.wu_lists.specs.Fetching.{AreFetched, AreGathered, HasBlock}
 use Rattle.wu_lists.specs.Gaining.{Gains}
 use Rattle.wu_lists.specs.Keeping.{AreHeld, Asks, Kept, StaysHeld, all_missing, asked, is_same}
 use Rattle.wu_lists.proofs.Ascending.{ascend-filter}
@@ -25,15 +25,15 @@ use Rattle.wu_lists.proofs.Spans.{none_live, spelled_ascend}
 
 module _ (X : Type 0) (Gain : List ℕ → X → X → Type 0) (block : Block) (frames : List Range) (holds : Option Content) (kept : Kept) where
   abbrev Found : List ℕ → Type 0
-  Found = AreFetched (HasBlock block) frames block.blob block.first (block.last + 1) holds kept
+  Found = AreGathered (HasBlock block) frames block.blob block.first (block.last + 1) holds kept
 
   -- of a block that frames don't need
-  pub fetched-none : (found : X) → Gain [] found found → block.first ≤ block.last → meets frames block ≡ false
+  pub gathered-none : (found : X) → Gain [] found found → block.first ≤ block.last → meets frames block ≡ false
       → Gains Gain Found found found
-  fetched-none found none span missed = record {
+  gathered-none found none span missed = record {
     more = [];
     gained = none;
-    kind = record { ascend = omega arith; live = tt; told = nothing holds };
+    kind = record { ascend = omega arith; told = nothing holds };
   }
     where
       nothing : (holds : Option Content) → IfSome holds (λ content. (bytes addresses : List ℕ) → content.blobs block.blob ≡ Some bytes
@@ -44,18 +44,14 @@ module _ (X : Type 0) (Gain : List ℕ → X → X → Type 0) (block : Block) (
           (spelled_ascend block addresses (bytes_of block bytes) has))
 
   -- of one whose addresses these are
-  pub fetched-some : (found after : X) (addresses : List ℕ) → AscendBetween block.first (block.last + 1) addresses
+  pub gathered-some : (found after : X) (addresses : List ℕ) → AscendBetween block.first (block.last + 1) addresses
       → IfSome holds (λ content. (bytes : List ℕ) → content.blobs block.blob ≡ Some bytes → AreHeld block.blob bytes kept
       → IsSpelling block addresses (bytes_of block bytes))
-      → Gain (filter (is_live frames) addresses) found after → Gains Gain Found found after
-  fetched-some found after addresses up told gained = record {
-    more = filter (is_live frames) addresses;
+      → Gain addresses found after → Gains Gain Found found after
+  gathered-some found after addresses up told gained = record {
+    more = addresses;
     gained = gained;
-    kind = record {
-      ascend = ascend-filter (is_live frames) block.first (block.last + 1) addresses up;
-      live = each-filter (is_live frames) addresses;
-      told = same holds told;
-    };
+    kind = record { ascend = up; told = same holds told };
   }
     where
       same : (holds : Option Content)
@@ -68,6 +64,16 @@ module _ (X : Type 0) (Gain : List ℕ → X → X → Type 0) (block : Block) (
       same (Some content) t = λ bytes others there held has.
           let s = t bytes there held in
           ap (filter (is_live frames)) (block_same block.low addresses others (bytes_of block bytes) s.spelled has.spelled)
+
+-- those of gathered addresses that lie in the frames are what is fetched
+pub fetched-from_gathered : (Has : List ℕ → List ℕ → Type 0) (frames : List Range) (blob low high : ℕ) (holds : Option Content) (kept : Kept)
+    (gathered : List ℕ) → AreGathered Has frames blob low high holds kept gathered
+    → AreFetched Has frames blob low high holds kept (filter (is_live frames) gathered)
+fetched-from_gathered Has frames blob low high holds kept gathered g = record {
+  ascend = ascend-filter (is_live frames) low high gathered g.ascend;
+  live = each-filter (is_live frames) gathered;
+  told = g.told;
+}
 
 -- ---- what is kept and read
 
@@ -166,3 +172,16 @@ told-read block None kept bytes addresses has spelled = tt
 told-read block (Some content) kept bytes addresses has spelled = λ blob is held.
     let same : has.blob ≡ blob = same_Some has.blob blob (sym has.there ∙ is) in
     subst (IsSpelling block addresses) (has.same ∙ ap (λ (l : List ℕ). bytes_of block l) same) spelled
+
+-- and those of one that stands first among those that are kept
+pub told-first : (block : Block) (holds : Option Content) (old new : Kept) (bytes addresses : List ℕ) (later : List (Block × List ℕ))
+    → StaysHeld holds old new → new.entries ≡ (block, bytes) ∷ later → IsSpelling block addresses bytes
+    → IfSome holds (λ content. (blob : List ℕ) → content.blobs block.blob ≡ Some blob → AreHeld block.blob blob old
+    → IsSpelling block addresses (bytes_of block blob))
+told-first block None old new bytes addresses later still first spelled = tt
+told-first block (Some content) old new bytes addresses later still first spelled = λ blob is held.
+    let all : AllByRecursion (λ (entry : Block × List ℕ). entry.0.blob ≡ block.blob → entry.1 ≡ bytes_of entry.0 blob)
+    ((block, bytes) ∷ later) =
+    subst (AllByRecursion (λ (entry : Block × List ℕ). entry.0.blob ≡ block.blob → entry.1 ≡ bytes_of entry.0 blob)) first
+    (still block.blob blob is held) in
+    subst (IsSpelling block addresses) (all.0 refl) spelled

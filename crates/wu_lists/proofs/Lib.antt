@@ -8,3 +8,4 @@ pub mod Walks
 pub mod Terms
 pub mod Readings
 pub mod Fetches
+pub mod Copies

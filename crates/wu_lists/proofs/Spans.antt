@@ -1,6 +1,6 @@
 -- Spans of blocks beside frames, and the addresses of a block.
-use Rattle.std.proofs.Common.{◌≡◌, ℕ, ◌+◌, ◌<◌, ◌≤◌, nat_le, Bool, true, false, cond, List, [], ◌∷◌, ◌++◌, filter, length, get_or, take}
-use Rattle.std.proofs.Common.{drop, refl, ap, ap₂, sym, ◌∙◌, arith, ⊎_elim}
+use Rattle.std.proofs.Common.{◌≡◌, ℕ, ◌+◌, ◌<◌, ◌≤◌, nat_le, true, false, List, [], ◌∷◌, ◌++◌, filter, length, get_or, take}
+use Rattle.std.proofs.Common.{drop, refl, ap, sym, ◌∙◌, arith, ⊎_elim}
 use Rattle.std.specs.Prelude.{Some}
 use Rattle.std.specs.List.{AllByRecursion, last_or}
 use Rattle.std.proofs.lemmas.Bool.{cases_lt, le-leb, lt-leb, lt-ltb, le-ltb, and_left, and_right, and_from}
@@ -15,12 +15,6 @@ use Rattle.wu_lists.specs.Ascending.{AscendBetween, AreInOrder}
 use Rattle.wu_lists.specs.Blocks.{IsSpelling, meets, overlaps}
 use Rattle.wu_lists.proofs.Ascending.{ascend-bounds}
 use Rattle.wu_lists.proofs.Cutting.{dead_in_ended}
-
-pub filter-alike : (p q : ℕ → Bool) (low : ℕ) (xs : List ℕ) → ((x : ℕ) → low ≤ x → p x ≡ q x) → AllByRecursion (λ x. low ≤ x) xs
-    → filter p xs ≡ filter q xs
-filter-alike p q low [] same a = refl
-filter-alike p q low (x ∷ xs) same a =
-    ap₂ (λ (b : Bool) (l : List ℕ). cond b (x ∷ l) l) (same x a.0) (filter-alike p q low xs same a.1)
 
 -- ---- frames that end before a block
 
@@ -53,7 +47,7 @@ meets-drop n low frames e block l =
 starts_later : (f : Range) (block : Block) → block.last < f.start → overlaps block f ≡ false
 starts_later f block l = and_left _ _ (lt-leb f.start block.last l)
 
-none_from : (low high : ℕ) (frames : List Range) (block : Block) → block.last < low → AreInOrder low high frames
+pub none_from : (low high : ℕ) (frames : List Range) (block : Block) → block.last < low → AreInOrder low high frames
     → meets frames block ≡ false
 none_from low high [] block l o = refl
 none_from low high (f ∷ fs) block l o =

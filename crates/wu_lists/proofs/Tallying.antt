@@ -12,7 +12,7 @@ use Rattle.wu_layout.specs.Postings.{is_live}
 use Rattle.wu_base.specs.Ranges.{frames_with, is_in}
 use Rattle.wu_lists.specs.declared.tallies.Tally.{Tally}
 use Rattle.wu_lists.specs.Ascending.{AscendBetween, AreInOrder}
-use Rattle.wu_lists.specs.Gaining.{Gains, opens, tally_on, tally_on-alike, tally_on-append, with_address, with_frame}
+use Rattle.wu_lists.specs.Gaining.{opens, tally_on, tally_on-alike, tally_on-append, with_address, with_frame}
 use Rattle.wu_lists.specs.Tallying.{Counts, Tallies, after_last, tally_of}
 use Rattle.wu_lists.proofs.Ascending.{all_from, ascend-bounds, ascend-filter, ascend-last, ascend-length, order-lower}
 use Rattle.wu_lists.proofs.Cutting.{all_front, dead_below}
@@ -294,6 +294,9 @@ module _ (frames : List Range) (order : AreInOrder 0 (2 ^ 64 - 1) frames) where
       ∙ ap (λ (t : Tally). tally_on frames t more) is
       ∙ tally_more found more a (few_more [] found (ascend-front 0 (2 ^ 64 - 1) found more a) none)
 
-  pub tallied : (Kind : List ℕ → Type 0) (before after : Tally) → Gains (λ more t u. u ≡ tally_on frames t more) Kind before after
+  pub tallied : (Kind : List ℕ → Type 0) (gathered : List ℕ) (before after : Tally)
+      → after ≡ tally_on frames before (filter (is_live frames) gathered) → Kind (filter (is_live frames) gathered)
       → Tallies frames Kind before after
-  tallied Kind before after g = record { more = g.more; kind = g.kind; told = counts g.more before after g.gained }
+  tallied Kind gathered before after gained kind =
+      let more : List ℕ = filter (is_live frames) gathered in
+      record { more = more; kind = kind; told = counts more before after gained }

@@ -20,7 +20,7 @@ use Rattle.wu_part.specs.Parts.{HoldBlocks, HoldsList, SpellsPart, IsNoPart}
 use Rattle.wu_part.proofs.ReadingLemmas.{stand_within}
 use Rattle.wu_lists.specs.declared.blocks.Block.{Block}
 use Rattle.wu_lists.specs.Blocks.{IsSpelledIn, blocks_from, blocks_in, bytes_of, entry_of, meets, needed}
-use Rattle.wu_lists.specs.Fetching.{AreFetched, HasBlocks, HasEntry, HasTerm}
+use Rattle.wu_lists.specs.Fetching.{AreGathered, HasBlocks, HasEntry, HasTerm}
 use Rattle.wu_lists.specs.Keeping.{AreHeld, Kept}
 use Rattle.wu_layout.specs.Postings.{is_live}
 use Rattle.wu_base.specs.declared.addresses.Range.{Range}
@@ -153,7 +153,7 @@ no-part content blob directory entry c broken =
       | Some bytes ↦ λ e lists s. broken (part-spelled content blob directory lists bytes entry e s c)
     ] refl
 
--- ---- what is fetched of a term
+-- ---- what is gathered of a term
 
 module _ (directory : PartDirectory) (term : List ℕ) (frames : List Range) (blob : ℕ) where
   pub needed-found : (entry : TermEntry) → entry_of directory.terms term ≡ Some entry
@@ -164,25 +164,26 @@ module _ (directory : PartDirectory) (term : List ℕ) (frames : List Range) (bl
   needed-absent e = ap (λ (o : Option TermEntry). filter (meets frames) (blocks_in blob directory.low o)) (sym e)
 
   module _ (low high : ℕ) (holds : Option Content) (kept : Kept) where
-    pub fetched-term : (entry : TermEntry) (found : List ℕ) → entry_of directory.terms term ≡ Some entry
-        → AreFetched (HasBlocks directory.low entry.count entry.blocks) frames blob low high holds kept found
-        → AreFetched (HasTerm directory term) frames blob low high holds kept found
-    fetched-term entry found e f = record { ascend = f.ascend; live = f.live; told = through holds f.told }
+    pub gathered-term : (entry : TermEntry) (found : List ℕ) → entry_of directory.terms term ≡ Some entry
+        → AreGathered (HasBlocks directory.low entry.count entry.blocks) frames blob low high holds kept found
+        → AreGathered (HasTerm directory term) frames blob low high holds kept found
+    gathered-term entry found e f = record { ascend = f.ascend; told = through holds f.told }
       where
         through : (holds : Option Content)
             → IfSome holds (λ content. (bytes addresses : List ℕ) → content.blobs blob ≡ Some bytes → AreHeld blob bytes kept
-            → HasBlocks directory.low entry.count entry.blocks bytes addresses → found ≡ filter (is_live frames) addresses)
+            → HasBlocks directory.low entry.count entry.blocks bytes addresses
+            → filter (is_live frames) found ≡ filter (is_live frames) addresses)
             → IfSome holds (λ content. (bytes addresses : List ℕ) → content.blobs blob ≡ Some bytes → AreHeld blob bytes kept
-            → HasTerm directory term bytes addresses → found ≡ filter (is_live frames) addresses)
+            → HasTerm directory term bytes addresses → filter (is_live frames) found ≡ filter (is_live frames) addresses)
         through None t = tt
         through (Some content) t = λ bytes addresses there held has.
             let h : HasEntry directory.low bytes term (Some entry) addresses =
             subst (λ (o : Option TermEntry). HasEntry directory.low bytes term o addresses) e has in
             t bytes addresses there held (record { number = h.count; held = h.blocks })
 
-    pub fetched-absent : entry_of directory.terms term ≡ None → low ≤ high
-        → AreFetched (HasTerm directory term) frames blob low high holds kept []
-    fetched-absent e span = record { ascend = span; live = tt; told = nothing holds }
+    pub gathered-absent : entry_of directory.terms term ≡ None → low ≤ high
+        → AreGathered (HasTerm directory term) frames blob low high holds kept []
+    gathered-absent e span = record { ascend = span; told = nothing holds }
       where
         nothing : (holds : Option Content)
             → IfSome holds (λ content. (bytes addresses : List ℕ) → content.blobs blob ≡ Some bytes → AreHeld blob bytes kept

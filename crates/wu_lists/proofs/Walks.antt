@@ -1,5 +1,5 @@
 -- The blocks of a term, gone through beside the frames.
-use Rattle.std.proofs.Common.{◌≡◌, ℕ, ◌+◌, ◌-◌, ◌^◌, ◌<◌, ◌≤◌, Bool, true, cond, List, [], ◌∷◌, ◌++◌, filter, length, take, drop, min, refl}
+use Rattle.std.proofs.Common.{◌≡◌, ℕ, ◌+◌, ◌-◌, ◌^◌, ◌<◌, ◌≤◌, Bool, cond, List, [], ◌∷◌, ◌++◌, filter, length, take, drop, min, refl}
 use Rattle.std.proofs.Common.{ap, ap₂, sym, ◌∙◌, subst, arith, append-nil, append_assoc}
 use Rattle.std.specs.Prelude.{Option, None, Some, IfSome}
 use Rattle.std.specs.List.{AllByRecursion}
@@ -7,7 +7,7 @@ use Rattle.std.proofs.lemmas.List.{length-drop, length-take, take-append-drop}
 use Rattle.std.proofs.lemmas.List.Elements.{filter-append}
 use Rattle.wu_base.specs.declared.addresses.Range.{Range}
 use Rattle.wu_base.specs.declared.limits.TheConstants.{ADDRESSES_MAX}
-use Rattle.wu_base.proofs.EachLemmas.{each-append, each_right}
+use Rattle.wu_base.proofs.EachLemmas.{each_right}
 use Rattle.wu_layout.specs.Postings.{is_live}
 use Rattle.wu_layout.proofs.EntryLemmas.{IfSome-map}
 use Rattle.wu_outside.specs.Content.{Content}
@@ -21,20 +21,13 @@ use Rattle.wu_part.specs.Parts.{HoldBlocks, HoldsBlock}
 use Rattle.wu_lists.specs.declared.blocks.Block.{Block}
 use Rattle.wu_lists.specs.Ascending.{AreInOrder}
 use Rattle.wu_lists.specs.Blocks.{IsSpelling, IsSpelledIn, blocks_from, bytes_of, meets}
-use Rattle.wu_lists.specs.Fetching.{AreFetched, AreInFrames, HasBlock, HasBlocks}
-use Rattle.wu_lists.specs.Gaining.{Gains, OpenAlike}
+use Rattle.wu_lists.specs.Fetching.{AreGathered, HasBlock, HasBlocks}
+use Rattle.wu_lists.specs.Gaining.{Gains, LiveAlike, OpenAlike, filter-alike}
 use Rattle.wu_lists.specs.Keeping.{AreHeld, Asks, Kept}
 use Rattle.wu_lists.specs.Walking.{IsFound, IsRest, IsWalked}
 use Rattle.wu_lists.proofs.Ascending.{all_from, ascend-higher, ascend-join}
 use Rattle.wu_lists.proofs.Asking.{asks-join, asks-none}
-use Rattle.wu_lists.proofs.Spans.{filter-alike, spelled_ascend}
-
--- ---- lists
-
-passes-alike : (p q : ℕ → Bool) (low : ℕ) (xs : List ℕ) → ((x : ℕ) → low ≤ x → p x ≡ q x) → AllByRecursion (λ x. low ≤ x) xs
-    → AllByRecursion (λ x. p x ≡ true) xs → AllByRecursion (λ x. q x ≡ true) xs
-passes-alike p q low [] same a t = tt
-passes-alike p q low (x ∷ xs) same a t = (sym (same x a.0) ∙ t.0, passes-alike p q low xs same a.1 t.1)
+use Rattle.wu_lists.proofs.Spans.{spelled_ascend}
 
 -- ---- what was gained
 
@@ -90,7 +83,7 @@ module _ (X : Type 0) (Gain : List ℕ → X → X → Type 0) (AreWanted : Type
     split = refl;
     asks = asks-none holds old ranges;
     found_of = λ wanted. gains-none Gain (IsFound frames blob low low all all holds old) before none
-        (record { ascend = omega arith; in_frames = tt; told = all-rest holds });
+        (record { ascend = omega arith; told = all-rest holds });
   }
     where
       all-rest : (holds : Option Content) → IfSome holds (λ content. (bytes addresses : List ℕ) → content.blobs blob ≡ Some bytes
@@ -111,13 +104,12 @@ module _ (X : Type 0) (Gain : List ℕ → X → X → Type 0) (AreWanted : Type
         subst (λ (bs : List Block). Asks (filter (meets frames) bs) holds old now ranges ranges_now) whole w.asks
 
     pub walked-found : AreWanted → rest.blocks ≡ []
-        → Gains Gain (AreFetched (HasBlocks low all.count all.blocks) frames blob low (high + 1) holds old) before found
+        → Gains Gain (AreGathered (HasBlocks low all.count all.blocks) frames blob low (high + 1) holds old) before found
     walked-found wanted none =
         gains-step Gain (IsFound frames blob low w.from all rest holds old)
-        (AreFetched (HasBlocks low all.count all.blocks) frames blob low (high + 1) holds old) before found
+        (AreGathered (HasBlocks low all.count all.blocks) frames blob low (high + 1) holds old) before found
         (λ more f. record {
           ascend = ascend-higher low w.from (high + 1) more w.within f.ascend;
-          live = f.in_frames;
           told = all-found more holds f.told;
         })
         (w.found_of wanted)
@@ -129,12 +121,13 @@ module _ (X : Type 0) (Gain : List ℕ → X → X → Type 0) (AreWanted : Type
             → IfSome holds (λ content. (bytes addresses : List ℕ) → content.blobs blob ≡ Some bytes → AreHeld blob bytes old
             → HasBlocks low all.count all.blocks bytes addresses → IsRest frames low rest bytes addresses more)
             → IfSome holds (λ content. (bytes addresses : List ℕ) → content.blobs blob ≡ Some bytes → AreHeld blob bytes old
-            → HasBlocks low all.count all.blocks bytes addresses → more ≡ filter (is_live frames) addresses)
+            → HasBlocks low all.count all.blocks bytes addresses → filter (is_live frames) more ≡ filter (is_live frames) addresses)
         all-found more None t = tt
         all-found more (Some content) t = λ bytes addresses there held has.
             let r = t bytes addresses there held has in
             let none_later : r.later ≡ [] = none-later rest.blocks bytes r.later none r.has.held in
-            sym (append-nil more) ∙ ap (λ (l : List ℕ). more ++ filter (is_live frames) l) (sym none_later) ∙ r.made
+            sym (append-nil (filter (is_live frames) more))
+            ∙ ap (λ (l : List ℕ). filter (is_live frames) more ++ filter (is_live frames) l) (sym none_later) ∙ r.made
 
     -- ---- one more
 
@@ -191,10 +184,10 @@ module _ (X : Type 0) (Gain : List ℕ → X → X → Type 0) (AreWanted : Type
           (λ content none a. none (block-spelled content a)) broken
 
       module _ (nearer : List Range) (order : AreInOrder 0 (2 ^ 64 - 1) nearer)
-          (live : (address : ℕ) → entry.first ≤ address → is_live nearer address ≡ is_live left address)
+          (live : LiveAlike entry.first nearer left)
           (needed : (other : Block) → entry.first ≤ other.first → meets nearer other ≡ meets left other)
           (opened : OpenAlike entry.first nearer left) where
-        alike : (address : ℕ) → entry.first ≤ address → is_live nearer address ≡ is_live frames address
+        alike : LiveAlike entry.first nearer frames
         alike address l = live address l ∙ w.live address (omega (arith, next-blocks.1.begin))
 
         -- what frames need of it
@@ -216,7 +209,7 @@ module _ (X : Type 0) (Gain : List ℕ → X → X → Type 0) (AreWanted : Type
 
         -- its addresses that frames need, after those of the blocks before it
         module _ (found_before more : List ℕ) (f : IsFound frames blob low w.from all rest holds old found_before)
-            (g : AreFetched (HasBlock block) nearer blob entry.first (entry.last + 1) holds now more) where
+            (g : AreGathered (HasBlock block) nearer blob entry.first (entry.last + 1) holds now more) where
           starts : AllByRecursion (λ (x : ℕ). entry.first ≤ x) more
           starts = all_from entry.first (entry.last + 1) more g.ascend
 
@@ -224,7 +217,7 @@ module _ (X : Type 0) (Gain : List ℕ → X → X → Type 0) (AreWanted : Type
               → IfSome holds (λ content. (blob : ℕ) (bytes : List ℕ) → content.blobs blob ≡ Some bytes → AreHeld blob bytes old
               → AreHeld blob bytes now)
               → IfSome holds (λ content. (bytes addresses : List ℕ) → content.blobs blob ≡ Some bytes → AreHeld blob bytes now
-              → IsSpelling block addresses (bytes_of block bytes) → more ≡ filter (is_live nearer) addresses)
+              → IsSpelling block addresses (bytes_of block bytes) → filter (is_live nearer) more ≡ filter (is_live nearer) addresses)
               → IfSome holds (λ content. (bytes addresses : List ℕ) → content.blobs blob ≡ Some bytes → AreHeld blob bytes old
               → HasBlocks low all.count all.blocks bytes addresses → IsRest frames low rest bytes addresses found_before)
               → IfSome holds (λ content. (bytes addresses : List ℕ) → content.blobs blob ≡ Some bytes → AreHeld blob bytes old
@@ -238,10 +231,12 @@ module _ (X : Type 0) (Gain : List ℕ → X → X → Type 0) (AreWanted : Type
               let number : count ≡ length here =
               omega (arith, counted, r.has.number, length-take BLOCK_LEN r.later) in
               let spelled : IsSpelling block here (bytes_of block bytes) = spelled-block blob low count entry bytes here number both.0 in
-              let same : more ≡ filter (is_live frames) here =
-              p bytes here there (h blob bytes there held) spelled
+              let same : filter (is_live frames) more ≡ filter (is_live frames) here =
+              sym (filter-alike (is_live nearer) (is_live frames) entry.first more alike starts)
+              ∙ p bytes here there (h blob bytes there held) spelled
               ∙ filter-alike (is_live nearer) (is_live frames) entry.first here alike
               (all_from entry.first (entry.last + 1) here (spelled_ascend block here (bytes_of block bytes) spelled)) in
+              let before_it : List ℕ = filter (is_live frames) found_before in
               record {
                 later = drop BLOCK_LEN r.later;
                 has = record {
@@ -249,10 +244,12 @@ module _ (X : Type 0) (Gain : List ℕ → X → X → Type 0) (AreWanted : Type
                   held = both.1;
                 };
                 made =
-                    append_assoc found_before more (filter (is_live frames) (drop BLOCK_LEN r.later))
-                    ∙ ap (λ (l : List ℕ). found_before ++ (l ++ filter (is_live frames) (drop BLOCK_LEN r.later))) same
-                    ∙ ap (λ (l : List ℕ). found_before ++ l) (sym (filter-append (is_live frames) here (drop BLOCK_LEN r.later)))
-                    ∙ ap (λ (l : List ℕ). found_before ++ filter (is_live frames) l) (take-append-drop BLOCK_LEN r.later)
+                    ap (λ (l : List ℕ). l ++ filter (is_live frames) (drop BLOCK_LEN r.later))
+                    (filter-append (is_live frames) found_before more)
+                    ∙ append_assoc before_it (filter (is_live frames) more) (filter (is_live frames) (drop BLOCK_LEN r.later))
+                    ∙ ap (λ (l : List ℕ). before_it ++ (l ++ filter (is_live frames) (drop BLOCK_LEN r.later))) same
+                    ∙ ap (λ (l : List ℕ). before_it ++ l) (sym (filter-append (is_live frames) here (drop BLOCK_LEN r.later)))
+                    ∙ ap (λ (l : List ℕ). before_it ++ filter (is_live frames) l) (take-append-drop BLOCK_LEN r.later)
                     ∙ r.made;
               }
 
@@ -261,9 +258,6 @@ module _ (X : Type 0) (Gain : List ℕ → X → X → Type 0) (AreWanted : Type
             ascend =
                 ascend-join low entry.first (entry.last + 1) found_before more
                 (ascend-higher low w.from entry.first found_before next-blocks.1.begin f.ascend) g.ascend;
-            in_frames =
-                each-append (λ (x : ℕ). is_live frames x ≡ true) found_before more f.in_frames
-                (passes-alike (is_live nearer) (is_live frames) entry.first more alike starts g.live);
             told = next-told holds w.asks.held g.told f.told;
           }
 
@@ -273,20 +267,21 @@ module _ (X : Type 0) (Gain : List ℕ → X → X → Type 0) (AreWanted : Type
 
         module _ (Near : List ℕ → X → X → Type 0)
             (joins : (xs ys : List ℕ) (a b c : X) → Gain xs a b → Gain ys b c → Gain (xs ++ ys) a c)
-            (nearby : (xs : List ℕ) (a b : X) → OpenAlike entry.first nearer frames → AllByRecursion (λ x. entry.first ≤ x) xs
-            → Near xs a b → Gain xs a b) where
+            (nearby : (xs : List ℕ) (a b : X) → LiveAlike entry.first nearer frames → OpenAlike entry.first nearer frames
+            → AllByRecursion (λ x. entry.first ≤ x) xs → Near xs a b → Gain xs a b) where
           gained_in_all : (more_found : X)
-              → Gains Near (AreFetched (HasBlock block) nearer blob entry.first (entry.last + 1) holds now) found more_found
-              → Gains Gain (AreFetched (HasBlock block) nearer blob entry.first (entry.last + 1) holds now) found more_found
+              → Gains Near (AreGathered (HasBlock block) nearer blob entry.first (entry.last + 1) holds now) found more_found
+              → Gains Gain (AreGathered (HasBlock block) nearer blob entry.first (entry.last + 1) holds now) found more_found
           gained_in_all more_found g = record {
             more = g.more;
-            gained = nearby g.more found more_found opened_alike (all_from entry.first (entry.last + 1) g.more g.kind.ascend) g.gained;
+            gained =
+                nearby g.more found more_found alike opened_alike (all_from entry.first (entry.last + 1) g.more g.kind.ascend) g.gained;
             kind = g.kind;
           }
 
           pub walked-next : (then : Kept) (ranges_then : Option (List ReadRange)) (more_found : X)
               → Asks (filter (meets nearer) (block ∷ [])) holds now then ranges_now ranges_then
-              → (AreWanted → Gains Near (AreFetched (HasBlock block) nearer blob entry.first (entry.last + 1) holds now) found more_found)
+              → (AreWanted → Gains Near (AreGathered (HasBlock block) nearer blob entry.first (entry.last + 1) holds now) found more_found)
               → IsWalked Gain AreWanted frames nearer blob low high all next holds old then ranges ranges_then before more_found
           walked-next then ranges_then more_found asks gains = record {
             from = entry.last + 1;
@@ -309,18 +304,14 @@ module _ (X : Type 0) (Gain : List ℕ → X → X → Type 0) (AreWanted : Type
             opened = λ after address l. opened_alike after address (omega (arith, ends-later));
             found_of = λ wanted.
                 gains-join Gain (IsFound frames blob low w.from all rest holds old)
-                (AreFetched (HasBlock block) nearer blob entry.first (entry.last + 1) holds now)
+                (AreGathered (HasBlock block) nearer blob entry.first (entry.last + 1) holds now)
                 (IsFound frames blob low (entry.last + 1) all next holds old) before found more_found joins found-next
                 (w.found_of wanted) (gained_in_all more_found (gains wanted));
           }
 
           -- after a block of which nothing was gained
           pub gained-before : (found_now : X) → (AreWanted → Near [] found found_now) → AreWanted
-              → Gains Gain (AreInFrames frames) before found_now
+              → (more : List ℕ) × Gain more before found_now
           gained-before found_now none wanted =
-              gains-join Gain (IsFound frames blob low w.from all rest holds old) (λ more. more ≡ []) (AreInFrames frames) before found
-              found_now joins
-              (λ xs ys f nothing.
-              subst (AreInFrames frames) (sym (append-nil xs) ∙ ap (λ (l : List ℕ). xs ++ l) (sym nothing)) f.in_frames)
-              (w.found_of wanted)
-              (record { more = []; gained = nearby [] found found_now opened_alike tt (none wanted); kind = refl })
+              let g = w.found_of wanted in
+              (g.more ++ [], joins g.more [] before found found_now g.gained (nearby [] found found_now alike opened_alike tt (none wanted)))

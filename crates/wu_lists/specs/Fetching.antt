@@ -26,6 +26,13 @@ pub record AreFetched (Has : List ℕ → List ℕ → Type 0) (frames : List Ra
   pub told : IfSome holds (λ content. (bytes addresses : List ℕ) → content.blobs blob ≡ Some bytes → AreHeld blob bytes kept
       → Has bytes addresses → found ≡ filter (is_live frames) addresses)
 
+-- The same, of all addresses of some blocks, with those outside the frames: those of them that lie in the frames are those.
+pub record AreGathered (Has : List ℕ → List ℕ → Type 0) (frames : List Range) (blob low high : ℕ) (holds : Option Content) (kept : Kept)
+    (gathered : List ℕ) : Type 0 where
+  pub ascend : AscendBetween low high gathered
+  pub told : IfSome holds (λ content. (bytes addresses : List ℕ) → content.blobs blob ≡ Some bytes → AreHeld blob bytes kept
+      → Has bytes addresses → filter (is_live frames) gathered ≡ filter (is_live frames) addresses)
+
 -- the entry's addresses, by these bytes of its part; none where there is no entry
 abbrev pub HasEntry : ℕ → List ℕ → List ℕ → Option TermEntry → List ℕ → Type 0
 HasEntry low bytes term None addresses = addresses ≡ []

@@ -1,9 +1,11 @@
--- What is gained of addresses: they are put at the end of others, or counted.
-use Rattle.std.specs.Prelude.{ℕ, ◌≡◌, ◌+◌, ◌-◌, ◌≤◌, ◌^◌, ◌&&◌, Bool, min, nat_le, length, List, [], ◌∷◌, ◌++◌, if◌then◌else◌}
+-- What is gained of blocks' addresses: those in frames are put at the end of others, or counted, or all are gathered.
+use Rattle.std.specs.Prelude.{ℕ, ◌≡◌, ◌+◌, ◌-◌, ◌≤◌, ◌^◌, ◌&&◌, Bool, true, false, min, nat_le, length, List, [], ◌∷◌, ◌++◌, if◌then◌else◌}
+use Rattle.std.specs.Prelude.{filter}
 use Rattle.std.specs.List.{AllByRecursion, list_any}
-use Rattle.std.proofs.Common.{refl, ap, ◌∙◌, cond}
+use Rattle.std.proofs.Common.{refl, ap, ap₂, ◌∙◌, cond}
 use Rattle.wu_base.specs.declared.addresses.Range.{Range}
 use Rattle.wu_base.specs.Ranges.{is_in}
+use Rattle.wu_layout.specs.Postings.{is_live}
 use Rattle.wu_lists.specs.declared.tallies.Tally.{Tally}
 use Rattle.wu_lists.specs.Tallying.{after_last}
 
@@ -20,6 +22,24 @@ opens frames after address = list_any (λ frame. is_in frame address && nat_le a
 -- from an address on the frames that are left open as all frames do
 abbrev pub OpenAlike : ℕ → List Range → List Range → Type 0
 OpenAlike low left frames = (after address : ℕ) → low ≤ address → opens left after address ≡ opens frames after address
+
+-- from an address on those that lie in the frames that are left are those that lie in all frames
+abbrev pub LiveAlike : ℕ → List Range → List Range → Type 0
+LiveAlike low left frames = (address : ℕ) → low ≤ address → is_live left address ≡ is_live frames address
+
+pub filter-alike : (p q : ℕ → Bool) (low : ℕ) (xs : List ℕ) → ((x : ℕ) → low ≤ x → p x ≡ q x) → AllByRecursion (λ x. low ≤ x) xs
+    → filter p xs ≡ filter q xs
+filter-alike p q low [] same a = refl
+filter-alike p q low (x ∷ xs) same a =
+    ap₂ (λ (b : Bool) (l : List ℕ). cond b (x ∷ l) l) (same x a.0) (filter-alike p q low xs same a.1)
+
+pub from-filter : (p : ℕ → Bool) (low : ℕ) (xs : List ℕ) → AllByRecursion (λ x. low ≤ x) xs → AllByRecursion (λ x. low ≤ x) (filter p xs)
+from-filter p low [] a = tt
+from-filter p low (x ∷ xs) a =
+    elim (p x) as (λ b. AllByRecursion (λ y. low ≤ y) (cond b (x ∷ filter p xs) (filter p xs))) [
+      | true ↦ (a.0, from-filter p low xs a.1)
+      | false ↦ from-filter p low xs a.1
+    ]
 
 -- one more address; sums stand still at 2^64 - 1
 abbrev pub with_address : List Range → Tally → ℕ → Tally

@@ -12,3 +12,4 @@ pub mod Tallying
 
 pub mod Gaining
 pub mod Walking
+pub mod Gathering

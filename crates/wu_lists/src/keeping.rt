@@ -56,6 +56,20 @@ impl Lists {
         self.kept.promote(block)
     }
 
+    /// The bytes of the block that was asked for last.
+    #[inline]
+    pub(crate) fn first_kept(&self, block: &Block) -> &[u8]
+        requires { (older : List Block) × (keys_of self.now.entries ≡ asked self.now.cap older block.now) }
+        ensures first { (later : List (Block × List ℕ)) × (self.now.entries ≡ (block.now, result.now) ∷ later) }
+        ensures checked { IsChecked (block.now, result.now) }
+    {
+        self.is_valid();
+        match self.kept.peek_mru() {
+            Some((_, bytes)) => bytes.as_slice(),
+            None => &[],
+        }
+    }
+
     /// A law: no block is kept twice, and not more than there may be.
     fn is_valid(&self)
         ensures { IsValid is_same self.now }

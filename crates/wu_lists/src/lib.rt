@@ -5,6 +5,7 @@
 
 mod blocks;
 mod frames;
+mod gathering;
 mod keeping;
 mod lists;
 mod sinks;
@@ -13,6 +14,7 @@ mod walking;
 
 pub use blocks::Block;
 pub use frames::{put_within, tally_within};
+pub use gathering::GatheredBlocks;
 pub use lists::Lists;
 pub use sinks::{AddressSink, Discard};
 pub use tallies::Tally;

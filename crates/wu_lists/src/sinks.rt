@@ -2,73 +2,109 @@
 ghost use Rattle.std.specs.Prelude.{◌≡◌, ◌-◌, ◌≤◌, ◌^◌, ◌++◌, ℕ, Bool, true, false, List, [], filter, OnErr, OnOk, refl};
 ghost use Rattle.std.specs.List.{AllByRecursion};
 ghost use Rattle.std.proofs.Common.{ap, sym, ◌∙◌, append-nil, append_assoc};
+ghost use Rattle.std.proofs.lemmas.List.Elements.{filter-append};
 ghost use Rattle.wu_base.specs.declared.addresses.Range.{Range};
 ghost use Rattle.wu_lists.specs.declared.tallies.Tally.{Tally};
 ghost use Rattle.wu_layout.specs.Postings.{is_live};
 ghost use Rattle.wu_lists.specs.Ascending.{AscendBetween, AreInOrder};
-ghost use Rattle.wu_lists.specs.Gaining.{OpenAlike, tally_on, tally_on-append, tally_on-alike};
+ghost use Rattle.wu_lists.specs.Blocks.{IsSpelling};
+ghost use Rattle.wu_lists.specs.Gaining.{LiveAlike, OpenAlike, filter-alike, from-filter, tally_on, tally_on-append, tally_on-alike};
 
+use crate::blocks::Block;
 use crate::frames::{count_within, put_within};
+use crate::gathering::GatheredBlocks;
 use crate::tallies::Tally;
 use wu_base::{NoMemory, Range};
 
-/// What gains the addresses that lie in frames.
+/// What gains addresses of blocks that frames need.
 pub trait AddressSink {
     /// Whether it does. Else the blocks are asked for alone.
     ghost wanted: { Bool };
 
-    /// These addresses of the frames were gained.
+    /// Whether it is given the bytes that spell them. Else it is given the addresses.
+    ghost copied: { Bool };
+
+    /// These addresses of blocks were gained, with those outside the frames.
     ghost gained: { List Range → List ℕ → Self → Self → Type 0 };
 
     fn wants(&self) -> bool
         ensures { result ≡ wanted };
 
-    /// Gains those of the addresses that lie in one of the frames. Out of memory, none is gained.
+    fn copies(&self) -> bool
+        ensures { result ≡ copied };
+
+    /// Gains a block's addresses, if it is given addresses. Out of memory, none is gained.
     fn gain(&mut self, addresses: &[u64], frames: &[Range]) -> Result<(), NoMemory>
         requires ascend { AscendBetween 0 (2 ^ 64 - 1) addresses.now }
         requires order { AreInOrder 0 (2 ^ 64 - 1) frames.now }
-        ensures ok { OnOk result (gained frames.now (filter (is_live frames.now) addresses.now) self.old self.new) }
+        ensures ok { OnOk result (copied ≡ false → gained frames.now addresses.now self.old self.new) }
         ensures err { OnErr result (gained frames.now [] self.old self.new) };
+
+    /// Gains the addresses of the block, which the bytes spell, if it is given bytes. Out of memory, none is gained.
+    fn gain_bytes(&mut self, block: &Block, bytes: &[u8]) -> Result<(), NoMemory>
+        requires spelled { (addresses : List ℕ) × IsSpelling block.now addresses bytes.now }
+        ensures ok { OnOk result (copied ≡ true → (frames : List Range) (addresses : List ℕ)
+            → IsSpelling block.now addresses bytes.now → gained frames addresses self.old self.new) }
+        ensures err { OnErr result ((frames : List Range) → gained frames [] self.old self.new) };
 
     ghost none: { (frames : List Range) (sink : Self) → gained frames [] sink sink };
 
     ghost joins: { (frames : List Range) (xs ys : List ℕ) (first next last : Self) → gained frames xs first next
         → gained frames ys next last → gained frames (xs ++ ys) first last };
 
-    ghost nearer: { (left frames : List Range) (low : ℕ) (xs : List ℕ) (before after : Self) → OpenAlike low left frames
-        → AllByRecursion (λ x. low ≤ x) xs → gained left xs before after → gained frames xs before after };
+    ghost nearer: { (left frames : List Range) (low : ℕ) (xs : List ℕ) (before after : Self) → LiveAlike low left frames
+        → OpenAlike low left frames → AllByRecursion (λ x. low ≤ x) xs → gained left xs before after → gained frames xs before after };
 }
 
-/// Puts them at the end.
+/// Puts those that lie in the frames at the end.
 impl AddressSink for Vec<u64> {
     ghost wanted = { true };
 
-    ghost gained = { λ _ more before after. after.items ≡ before.items ++ more };
+    ghost copied = { false };
+
+    ghost gained = { λ frames more before after. after.items ≡ before.items ++ filter (is_live frames) more };
 
     fn wants(&self) -> bool {
         true
+    }
+
+    fn copies(&self) -> bool {
+        false
     }
 
     fn gain(&mut self, addresses: &[u64], frames: &[Range]) -> Result<(), NoMemory> {
         put_within(self, addresses, frames)
     }
 
+    fn gain_bytes(&mut self, _block: &Block, _bytes: &[u8]) -> Result<(), NoMemory> {
+        Ok(())
+    }
+
     ghost none = { λ _ found. sym (append-nil found.items) };
 
-    ghost joins = { λ _ xs ys first next last a b.
-        b ∙ ap (λ (l : List ℕ). l ++ ys) a ∙ append_assoc first.items xs ys };
+    ghost joins = { λ frames xs ys first next last a b.
+        b ∙ ap (λ (l : List ℕ). l ++ filter (is_live frames) ys) a
+        ∙ append_assoc first.items (filter (is_live frames) xs) (filter (is_live frames) ys)
+        ∙ ap (λ (l : List ℕ). first.items ++ l) (sym (filter-append (is_live frames) xs ys)) };
 
-    ghost nearer = { λ _ _ _ _ _ _ _ _ a. a };
+    ghost nearer = { λ left frames low xs before after live _ from a.
+        a ∙ ap (λ (l : List ℕ). before.items ++ l) (filter-alike (is_live left) (is_live frames) low xs live from) };
 }
 
-/// Counts them.
+/// Counts those that lie in the frames.
 impl AddressSink for Tally {
     ghost wanted = { true };
 
-    ghost gained = { λ frames more before after. after ≡ tally_on frames before more };
+    ghost copied = { false };
+
+    ghost gained = { λ frames more before after. after ≡ tally_on frames before (filter (is_live frames) more) };
 
     fn wants(&self) -> bool {
         true
+    }
+
+    fn copies(&self) -> bool {
+        false
     }
 
     fn gain(&mut self, addresses: &[u64], frames: &[Range]) -> Result<(), NoMemory> {
@@ -76,13 +112,52 @@ impl AddressSink for Tally {
         Ok(())
     }
 
+    fn gain_bytes(&mut self, _block: &Block, _bytes: &[u8]) -> Result<(), NoMemory> {
+        Ok(())
+    }
+
     ghost none = { λ _ _. refl };
 
     ghost joins = { λ frames xs ys first next last a b.
-        b ∙ ap (λ (t : Tally). tally_on frames t ys) a ∙ sym (tally_on-append frames first xs ys) };
+        b ∙ ap (λ (t : Tally). tally_on frames t (filter (is_live frames) ys)) a
+        ∙ sym (tally_on-append frames first (filter (is_live frames) xs) (filter (is_live frames) ys))
+        ∙ ap (λ (l : List ℕ). tally_on frames first l) (sym (filter-append (is_live frames) xs ys)) };
 
-    ghost nearer = { λ left frames low xs before after alike from a.
-        a ∙ tally_on-alike left frames low alike before xs from };
+    ghost nearer = { λ left frames low xs before after live alike from a.
+        a ∙ ap (λ (l : List ℕ). tally_on left before l) (filter-alike (is_live left) (is_live frames) low xs live from)
+        ∙ tally_on-alike left frames low alike before (filter (is_live frames) xs) (from-filter (is_live frames) low xs from) };
+}
+
+/// Copies the bytes that spell them.
+impl AddressSink for GatheredBlocks {
+    ghost wanted = { true };
+
+    ghost copied = { true };
+
+    ghost gained = { λ _ more before after. after ≡ before ++ more };
+
+    fn wants(&self) -> bool {
+        true
+    }
+
+    fn copies(&self) -> bool {
+        true
+    }
+
+    fn gain(&mut self, _addresses: &[u64], _frames: &[Range]) -> Result<(), NoMemory> {
+        Ok(())
+    }
+
+    fn gain_bytes(&mut self, block: &Block, bytes: &[u8]) -> Result<(), NoMemory> {
+        self.push(block, bytes)
+    }
+
+    ghost none = { λ _ blocks. sym (append-nil blocks) };
+
+    ghost joins = { λ _ xs ys first next last a b.
+        b ∙ ap (λ (l : List ℕ). l ++ ys) a ∙ append_assoc first xs ys };
+
+    ghost nearer = { λ _ _ _ _ _ _ _ _ _ a. a };
 }
 
 /// Wants none.
@@ -92,9 +167,15 @@ pub struct Discard;
 impl AddressSink for Discard {
     ghost wanted = { false };
 
+    ghost copied = { false };
+
     ghost gained = { λ _ _ before after. after ≡ before };
 
     fn wants(&self) -> bool {
+        false
+    }
+
+    fn copies(&self) -> bool {
         false
     }
 
@@ -102,9 +183,13 @@ impl AddressSink for Discard {
         Ok(())
     }
 
+    fn gain_bytes(&mut self, _block: &Block, _bytes: &[u8]) -> Result<(), NoMemory> {
+        Ok(())
+    }
+
     ghost none = { λ _ _. refl };
 
     ghost joins = { λ _ _ _ _ _ _ a b. b ∙ a };
 
-    ghost nearer = { λ _ _ _ _ _ _ _ _ a. a };
+    ghost nearer = { λ _ _ _ _ _ _ _ _ _ a. a };
 }

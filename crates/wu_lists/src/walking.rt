@@ -1,5 +1,5 @@
 //! The blocks of a term that frames need, one after another.
-ghost use Rattle.std.specs.Prelude.{◌≡◌, ◌+◌, ◌-◌, ◌^◌, ◌<◌, ◌≤◌, [], ◌∷◌, All, filter, true, IfErr, IfSome, OnErr, OnOk};
+ghost use Rattle.std.specs.Prelude.{◌≡◌, ◌+◌, ◌-◌, ◌^◌, ◌<◌, ◌≤◌, ℕ, List, [], ◌∷◌, All, filter, true, false, IfErr, IfSome, OnErr, OnOk};
 ghost use Rattle.std.specs.List.{AllByRecursion};
 ghost use Rattle.std.specs.Map.{keys_of};
 ghost use Rattle.wu_base.specs.declared.limits.TheConstants.{ADDRESSES_MAX};
@@ -8,7 +8,7 @@ ghost use Rattle.wu_part.specs.Directories.{AreBlocks};
 ghost use Rattle.wu_lists.specs.Ascending.{AreInOrder};
 ghost use Rattle.wu_lists.specs.Blocks.{IsSpelledIn, blocks_from, meets, needed};
 ghost use Rattle.wu_lists.specs.Causes.{IsCause, IsTermCause};
-ghost use Rattle.wu_lists.specs.Fetching.{AreFetched, AreInFrames, HasBlock, HasBlocks, HasTerm};
+ghost use Rattle.wu_lists.specs.Fetching.{AreGathered, HasBlock, HasBlocks, HasTerm};
 ghost use Rattle.wu_lists.specs.Gaining.{Gains};
 ghost use Rattle.wu_lists.specs.Keeping.{Asks, AsksFirst, all_missing};
 
@@ -22,7 +22,7 @@ use wu_part::{Directory, Entry};
 
 impl Lists {
     /// Asks for the blocks of the term that the frames need, as [`Lists::fetch`] does. A sink that wants them gains the
-    /// addresses that lie in the frames; after an error it has gained some addresses that do, or none.
+    /// blocks' addresses; after an error it has gained some, or none.
     ///
     /// The blob is damaged where [`Lists::fetch`] would find it so.
     pub fn walk<D: Store, S: AddressSink>(
@@ -36,10 +36,10 @@ impl Lists {
     ) -> Result<(), Trouble>
         requires apart { AreApart frames.now }
         requires bounded { All (λ frame. frame.start + frame.len ≤ ADDRESSES_MAX) frames.now }
-        ensures addresses { OnOk result (S.wanted ≡ true → Gains (S.gained frames.now) (AreFetched (HasTerm dir.now term.now)
+        ensures addresses { OnOk result (S.wanted ≡ true → Gains (S.gained frames.now) (AreGathered (HasTerm dir.now term.now)
             frames.now blob dir.now.low (dir.now.high + 1) (D.holds store.old) self.old) found.old found.new) }
         ensures some { OnErr result (S.wanted ≡ true
-            → Gains (S.gained frames.now) (AreInFrames frames.now) found.old found.new) }
+            → (more : List ℕ) × S.gained frames.now more found.old found.new) }
         ensures blocks { OnOk result (Asks (needed blob dir.now term.now frames.now) (D.holds store.old) self.old self.new
             (D.reads store.old) (D.reads store.new)) }
         ensures kept { OnErr result (AsksFirst (needed blob dir.now term.now frames.now) (D.holds store.old) self.old self.new) }
@@ -74,10 +74,10 @@ impl Lists {
         requires bounded { dir.now.high < ADDRESSES_MAX }
         requires span { dir.now.low ≤ dir.now.high }
         ensures addresses { OnOk result (S.wanted ≡ true → Gains (S.gained frames.now)
-            (AreFetched (HasBlocks dir.now.low entry.entry.count entry.entry.blocks)
+            (AreGathered (HasBlocks dir.now.low entry.entry.count entry.entry.blocks)
             frames.now blob dir.now.low (dir.now.high + 1) (D.holds store.old) self.old) found.old found.new) }
         ensures some { OnErr result (S.wanted ≡ true
-            → Gains (S.gained frames.now) (AreInFrames frames.now) found.old found.new) }
+            → (more : List ℕ) × S.gained frames.now more found.old found.new) }
         ensures blocks { OnOk result (Asks
             (filter (meets frames.now) (blocks_from blob dir.now.low entry.entry.count entry.entry.blocks))
             (D.holds store.old) self.old self.new (D.reads store.old) (D.reads store.new)) }
@@ -111,8 +111,8 @@ impl Lists {
         Ok(())
     }
 
-    /// Asks for the block if a frame overlaps with it. A sink that wants them gains its addresses that lie in the
-    /// frames, and none after an error.
+    /// Asks for the block if a frame overlaps with it. A sink that wants them then gains its addresses, and none after an
+    /// error.
     #[inline]
     fn visit<D: Store, S: AddressSink>(
         &mut self,
@@ -125,7 +125,7 @@ impl Lists {
         requires after { AllByRecursion (λ frame. block.now.first < frame.start + frame.len) frames.now }
         requires span { block.now.first ≤ block.now.last }
         requires bounded { block.now.last < ADDRESSES_MAX }
-        ensures addresses { OnOk result (S.wanted ≡ true → Gains (S.gained frames.now) (AreFetched (HasBlock block.now) frames.now
+        ensures addresses { OnOk result (S.wanted ≡ true → Gains (S.gained frames.now) (AreGathered (HasBlock block.now) frames.now
             block.now.blob block.now.first (block.now.last + 1) (D.holds store.old) self.old) found.old found.new) }
         ensures none { OnErr result (S.gained frames.now [] found.old found.new) }
         ensures blocks { OnOk result (Asks (filter (meets frames.now) (block.now ∷ [])) (D.holds store.old) self.old self.new
@@ -139,10 +139,12 @@ impl Lists {
             (IfSome (D.holds store.old) (λ content. IsSpelledIn content block.now → ⊥))
             (D.faults store.old) (D.faults store.new) (D.reads store.old) (D.reads store.new)) }
     {
-        if found.wants() {
-            self.put_block(store, block, frames, found)
-        } else {
+        if !found.wants() {
             self.touch_block(store, block, frames)
+        } else if found.copies() {
+            self.copy_block(store, block, frames, found)
+        } else {
+            self.put_block(store, block, frames, found)
         }
     }
 
@@ -170,6 +172,22 @@ impl Lists {
         if !is_needed(block, frames) {
             return Ok(());
         }
+        self.ask(store, block)
+    }
+
+    /// Asks for the block.
+    #[inline]
+    fn ask<D: Store>(&mut self, store: &mut D, block: &Block) -> Result<(), Trouble>
+        ensures blocks { OnOk result (Asks (block.now ∷ []) (D.holds store.old) self.old self.new
+            (D.reads store.old) (D.reads store.new)) }
+        ensures kept { OnErr result (AsksFirst (block.now ∷ []) (D.holds store.old) self.old self.new) }
+        ensures holds { D.holds store.new ≡ D.holds store.old }
+        ensures moments { D.moments store.new ≡ D.moments store.old }
+        ensures calm { OnOk result (D.faults store.new ≡ D.faults store.old) }
+        ensures cause { IfErr result (IsCause (all_missing self.old.cap (keys_of self.old.entries) (block.now ∷ [])) block.now.blob
+            (IfSome (D.holds store.old) (λ content. IsSpelledIn content block.now → ⊥))
+            (D.faults store.old) (D.faults store.new) (D.reads store.old) (D.reads store.new)) }
+    {
         if self.is_kept(block) {
             return Ok(());
         }
@@ -177,8 +195,8 @@ impl Lists {
         Ok(())
     }
 
-    /// The sink gains the addresses of the block that lie in the frames, and none after an error. A block that no
-    /// frame overlaps with isn't asked for.
+    /// The sink gains the addresses of the block, and none after an error. A block that no frame overlaps with isn't
+    /// asked for.
     #[inline]
     fn put_block<D: Store, S: AddressSink>(
         &mut self,
@@ -187,11 +205,12 @@ impl Lists {
         frames: &[Range],
         found: &mut S,
     ) -> Result<(), Trouble>
+        requires given { S.copied ≡ false }
         requires order { AreInOrder 0 (2 ^ 64 - 1) frames.now }
         requires after { AllByRecursion (λ frame. block.now.first < frame.start + frame.len) frames.now }
         requires span { block.now.first ≤ block.now.last }
         requires bounded { block.now.last < ADDRESSES_MAX }
-        ensures addresses { OnOk result (Gains (S.gained frames.now) (AreFetched (HasBlock block.now) frames.now block.now.blob
+        ensures addresses { OnOk result (Gains (S.gained frames.now) (AreGathered (HasBlock block.now) frames.now block.now.blob
             block.now.first (block.now.last + 1) (D.holds store.old) self.old) found.old found.new) }
         ensures none { OnErr result (S.gained frames.now [] found.old found.new) }
         ensures blocks { OnOk result (Asks (filter (meets frames.now) (block.now ∷ [])) (D.holds store.old) self.old self.new
@@ -210,6 +229,42 @@ impl Lists {
         }
         let addresses = self.addresses(store, block)?;
         found.gain(&addresses, frames)?;
+        Ok(())
+    }
+
+    /// The same for a sink that is given the bytes: those of a block that was asked for are kept.
+    #[inline]
+    fn copy_block<D: Store, S: AddressSink>(
+        &mut self,
+        store: &mut D,
+        block: &Block,
+        frames: &[Range],
+        found: &mut S,
+    ) -> Result<(), Trouble>
+        requires given { S.copied ≡ true }
+        requires order { AreInOrder 0 (2 ^ 64 - 1) frames.now }
+        requires after { AllByRecursion (λ frame. block.now.first < frame.start + frame.len) frames.now }
+        requires span { block.now.first ≤ block.now.last }
+        requires bounded { block.now.last < ADDRESSES_MAX }
+        ensures addresses { OnOk result (Gains (S.gained frames.now) (AreGathered (HasBlock block.now) frames.now block.now.blob
+            block.now.first (block.now.last + 1) (D.holds store.old) self.old) found.old found.new) }
+        ensures none { OnErr result (S.gained frames.now [] found.old found.new) }
+        ensures blocks { OnOk result (Asks (filter (meets frames.now) (block.now ∷ [])) (D.holds store.old) self.old self.new
+            (D.reads store.old) (D.reads store.new)) }
+        ensures kept { OnErr result (AsksFirst (filter (meets frames.now) (block.now ∷ [])) (D.holds store.old) self.old self.new) }
+        ensures holds { D.holds store.new ≡ D.holds store.old }
+        ensures moments { D.moments store.new ≡ D.moments store.old }
+        ensures calm { OnOk result (D.faults store.new ≡ D.faults store.old) }
+        ensures cause { IfErr result (IsCause
+            (all_missing self.old.cap (keys_of self.old.entries) (filter (meets frames.now) (block.now ∷ []))) block.now.blob
+            (IfSome (D.holds store.old) (λ content. IsSpelledIn content block.now → ⊥))
+            (D.faults store.old) (D.faults store.new) (D.reads store.old) (D.reads store.new)) }
+    {
+        if !is_needed(block, frames) {
+            return Ok(());
+        }
+        self.ask(store, block)?;
+        found.gain_bytes(block, self.first_kept(block))?;
         Ok(())
     }
 }

@@ -1,4 +1,4 @@
--- The addresses that are fetched of several parts, one after another, and of memory.
+-- The addresses that are gathered of several parts, one after another, and of memory.
 use Rattle.std.proofs.Common.{◌≡◌, ◌⊎◌, ℕ, ◌+◌, true, false, cond, nat_eq, List, [], ◌∷◌, ◌++◌, map, filter, Option, None, Some, refl, ap}
 use Rattle.std.proofs.Common.{ap₂, sym, ◌∙◌, subst, arith, inl, inr, ⊎_elim}
 use Rattle.std.specs.Prelude.{IfSome, zip}
@@ -11,7 +11,6 @@ use Rattle.wu_base.specs.declared.addresses.PartRec.{PartRec}
 use Rattle.wu_base.specs.declared.addresses.Range.{Range}
 use Rattle.wu_base.proofs.Members.{Has}
 use Rattle.wu_base.proofs.SortedLists.{has-sorted_once}
-use Rattle.wu_base.proofs.EachLemmas.{each-append}
 use Rattle.wu_outside.specs.Content.{Content}
 use Rattle.wu_outside.specs.declared.ranges.ReadRange.{ReadRange}
 use Rattle.wu_layout.specs.Postings.{Posting, addresses_of, fetched, is_live, is_of}
@@ -23,15 +22,15 @@ use Rattle.wu_part.specs.Directories.{PartDirectory}
 use Rattle.wu_part.specs.Parts.{HoldsList, IsRecorded, SpellsPart}
 use Rattle.wu_lists.specs.declared.blocks.Block.{Block}
 use Rattle.wu_lists.specs.Blocks.{entry_of}
-use Rattle.wu_lists.specs.Fetching.{AreFetched, HasEntry, HasTerm}
+use Rattle.wu_lists.specs.Fetching.{AreGathered, HasEntry, HasTerm}
 use Rattle.wu_lists.specs.Keeping.{AreHeld, Asks, Kept}
 use Rattle.wu_parts.specs.Contents.{Contents}
 use Rattle.wu_parts.specs.Holdings.{AreKept, HoldParts, HoldTerm}
 use Rattle.wu_parts.specs.Memory.{Memory, held}
 use Rattle.wu_lists.specs.Ascending.{AscendBetween}
-use Rattle.wu_parts.specs.StoredParts.{AreFetchedFrom, AreFetchedIn, SpansAscend, directories_of, pairs_of, records_of}
+use Rattle.wu_parts.specs.StoredParts.{AreGatheredFrom, AreGatheredIn, SpansAscend, directories_of, pairs_of, records_of}
 use Rattle.wu_parts.specs.declared.writing.StoredPart.{StoredPart}
-use Rattle.wu_lists.proofs.Ascending.{ascend-join, ascend-lower}
+use Rattle.wu_lists.proofs.Ascending.{ascend-filter, ascend-join, ascend-lower}
 use Rattle.wu_parts.proofs.Asking.{seen-parts}
 
 -- a term stands somewhere or nowhere
@@ -91,10 +90,10 @@ kept_after content [] old new f a = tt
 kept_after content (recorded ∷ records) old new f a =
     ((λ bytes e. f recorded.blob bytes e (a.0 bytes e)), kept_after content records old new f a.1)
 
-pub fetched-none : (term : List ℕ) (frames : List Range) (holds : Option Content) (kept : Kept)
-    → AreFetchedFrom [] term frames holds kept []
-fetched-none term frames None kept = record { ascend = λ low high s. s; live = tt; told = tt }
-fetched-none term frames (Some content) kept = record { ascend = λ low high s. s; live = tt; told = none }
+pub gathered-none : (term : List ℕ) (frames : List Range) (holds : Option Content) (kept : Kept)
+    → AreGatheredFrom [] term frames holds kept []
+gathered-none term frames None kept = record { ascend = λ low high s. s; told = tt }
+gathered-none term frames (Some content) kept = record { ascend = λ low high s. s; told = none }
   where
     none : (lists : List (List ℕ)) → HoldTerm content term [] lists → AreKept content [] kept → [] ≡ filter (is_live frames) (concat lists)
     none [] h k = refl
@@ -104,56 +103,57 @@ module _ (part : StoredPart) (later : List StoredPart) (term : List ℕ) (frames
     (told : IsRecorded part.recorded part.directory) where
   told_both : (holds : Option Content)
       → IfSome holds (λ content. (bytes addresses : List ℕ) → content.blobs part.recorded.blob ≡ Some bytes
-      → AreHeld part.recorded.blob bytes old → HasTerm part.directory term bytes addresses → more ≡ filter (is_live frames) addresses)
+      → AreHeld part.recorded.blob bytes old → HasTerm part.directory term bytes addresses
+      → filter (is_live frames) more ≡ filter (is_live frames) addresses)
       → IfSome holds (λ content. (lists : List (List ℕ)) → HoldTerm content term (pairs_of later) lists
-      → AreKept content (records_of later) middle → rest ≡ filter (is_live frames) (concat lists))
+      → AreKept content (records_of later) middle → filter (is_live frames) rest ≡ filter (is_live frames) (concat lists))
       → IfSome holds (λ content. (blob : ℕ) (bytes : List ℕ) → content.blobs blob ≡ Some bytes → AreHeld blob bytes old
       → AreHeld blob bytes middle)
       → IfSome holds (λ content. (lists : List (List ℕ)) → HoldTerm content term (pairs_of (part ∷ later)) lists
-      → AreKept content (records_of (part ∷ later)) old → more ++ rest ≡ filter (is_live frames) (concat lists))
+      → AreKept content (records_of (part ∷ later)) old → filter (is_live frames) (more ++ rest) ≡ filter (is_live frames) (concat lists))
   told_both None a b h = tt
   told_both (Some content) a b h = both
     where
       both : (lists : List (List ℕ)) → HoldTerm content term (pairs_of (part ∷ later)) lists
-          → AreKept content (records_of (part ∷ later)) old → more ++ rest ≡ filter (is_live frames) (concat lists)
+          → AreKept content (records_of (part ∷ later)) old
+          → filter (is_live frames) (more ++ rest) ≡ filter (is_live frames) (concat lists)
       both [] p k = absurd p
       both (addresses ∷ lists) p k =
-          ap₂ (λ (xs ys : List ℕ). xs ++ ys) (a p.0.0 addresses p.0.1 (k.0 p.0.0 p.0.1) p.0.2)
+          filter-append (is_live frames) more rest
+          ∙ ap₂ (λ (xs ys : List ℕ). xs ++ ys) (a p.0.0 addresses p.0.1 (k.0 p.0.0 p.0.1) p.0.2)
           (b lists p.1 (kept_after content (records_of later) old middle h k.1))
           ∙ sym (filter-append (is_live frames) addresses (concat lists))
 
-  pub fetched-first : (holds : Option Content) (blocks : List Block) (ranges ranges_now : Option (List ReadRange))
-      → AreFetched (HasTerm part.directory term) frames part.recorded.blob part.directory.low (part.directory.high + 1) holds old more
+  pub gathered-first : (holds : Option Content) (blocks : List Block) (ranges ranges_now : Option (List ReadRange))
+      → AreGathered (HasTerm part.directory term) frames part.recorded.blob part.directory.low (part.directory.high + 1) holds old more
       → Asks blocks holds old middle ranges ranges_now
-      → AreFetchedFrom later term frames holds middle rest → AreFetchedFrom (part ∷ later) term frames holds old (more ++ rest)
-  fetched-first holds blocks ranges ranges_now f a b = record {
+      → AreGatheredFrom later term frames holds middle rest → AreGatheredFrom (part ∷ later) term frames holds old (more ++ rest)
+  gathered-first holds blocks ranges ranges_now f a b = record {
     ascend = λ low high s.
         ascend-join low (part.recorded.high + 1) high more rest
         (ascend-lower low part.directory.low (part.recorded.high + 1) more (omega (arith, s.0, told.low))
         (subst (λ (n : ℕ). AscendBetween part.directory.low (n + 1) more) told.high f.ascend))
         (b.ascend (part.recorded.high + 1) high s.2);
-    live = each-append (λ address. is_live frames address ≡ true) more rest f.live b.live;
     told = told_both holds f.told b.told a.held;
   }
 
 -- what is fetched of the parts, as contracts see it
-pub fetched-seen : (old fields : Contents) (parts slice : List StoredPart) → fields ≡ old → fields.parts ≡ records_of parts
+pub gathered-seen : (old fields : Contents) (parts slice : List StoredPart) → fields ≡ old → fields.parts ≡ records_of parts
     → fields.directories ≡ directories_of parts → slice ≡ parts → (term : List ℕ) (frames : List Range) (holds : Option Content)
-    (found : List ℕ) → SpansAscend 0 fields.memory.low parts → AreFetchedFrom slice term frames holds fields.kept found
-    → AreFetchedIn old term frames holds found
-fetched-seen old fields parts slice e p d s term frames holds found spans f =
-    subst (λ (seen : Contents). AreFetchedIn seen term frames holds found) e
+    (found : List ℕ) → SpansAscend 0 fields.memory.low parts → AreGatheredFrom slice term frames holds fields.kept found
+    → AreGatheredIn old term frames holds found
+gathered-seen old fields parts slice e p d s term frames holds found spans f =
+    subst (λ (seen : Contents). AreGatheredIn seen term frames holds found) e
     (record {
       ascend = f.ascend 0 fields.memory.low (subst (SpansAscend 0 fields.memory.low) (sym s) spans);
-      live = f.live;
       told = of_fields holds f.told;
     })
   where
     of_fields : (told_by : Option Content)
         → IfSome told_by (λ content. (lists : List (List ℕ)) → HoldTerm content term (pairs_of slice) lists
-        → AreKept content (records_of slice) fields.kept → found ≡ filter (is_live frames) (concat lists))
+        → AreKept content (records_of slice) fields.kept → filter (is_live frames) found ≡ filter (is_live frames) (concat lists))
         → IfSome told_by (λ content. (lists : List (List ℕ)) → HoldTerm content term (zip fields.parts fields.directories) lists
-        → AreKept content fields.parts fields.kept → found ≡ filter (is_live frames) (concat lists))
+        → AreKept content fields.parts fields.kept → filter (is_live frames) found ≡ filter (is_live frames) (concat lists))
     of_fields None t = tt
     of_fields (Some content) t = λ lists h k.
         t lists (subst (λ ps. HoldTerm content term ps lists) (sym (seen-parts fields fields parts slice refl p d s)) h)
@@ -186,20 +186,29 @@ all_stored term (part ∷ stored) =
 
 -- the addresses in parts, and then those in memory
 module _ (old : Contents) (memory : Memory) (same : memory ≡ old.memory) (term : List ℕ) (frames : List Range) (holds : Option Content)
-    (found : List ℕ) (f : AreFetchedIn old term frames holds found) where
+    (found : List ℕ) (f : AreGatheredIn old term frames holds found) where
+  ascend-parts : AscendBetween 0 memory.low found
+  ascend-parts = subst (λ (m : Memory). AscendBetween 0 m.low found) (sym same) f.ascend
+
   pub ascend-both : (more : List ℕ) → AscendBetween memory.low memory.end more → AscendBetween 0 memory.end (found ++ more)
-  ascend-both more last =
-      ascend-join 0 memory.low memory.end found more (subst (λ (m : Memory). AscendBetween 0 m.low found) (sym same) f.ascend) last
+  ascend-both more last = ascend-join 0 memory.low memory.end found more ascend-parts last
+
+  pub ascend-live : (more : List ℕ) → AscendBetween memory.low memory.end more
+      → AscendBetween 0 memory.end (filter (is_live frames) found ++ more)
+  ascend-live more last =
+      ascend-join 0 memory.low memory.end (filter (is_live frames) found) more
+      (ascend-filter (is_live frames) 0 memory.low found ascend-parts) last
 
   -- what is made of them, by the parts' lists
-  pub lists-both : {X : Type 0} (made_of : List ℕ → X) (all : X) → all ≡ made_of (found ++ filter (is_live frames) (held memory term))
+  pub lists-both : {X : Type 0} (made_of : List ℕ → X) (all : X)
+      → all ≡ made_of (filter (is_live frames) found ++ filter (is_live frames) (held memory term))
       → IfSome holds (λ content. (lists : List (List ℕ)) → HoldTerm content term (zip old.parts old.directories) lists
       → AreKept content old.parts old.kept → all ≡ made_of (filter (is_live frames) (concat lists ++ held old.memory term)))
   lists-both made_of all is = of_told holds f.told
     where
       of_told : (o : Option Content)
           → IfSome o (λ content. (lists : List (List ℕ)) → HoldTerm content term (zip old.parts old.directories) lists
-          → AreKept content old.parts old.kept → found ≡ filter (is_live frames) (concat lists))
+          → AreKept content old.parts old.kept → filter (is_live frames) found ≡ filter (is_live frames) (concat lists))
           → IfSome o (λ content. (lists : List (List ℕ)) → HoldTerm content term (zip old.parts old.directories) lists
           → AreKept content old.parts old.kept → all ≡ made_of (filter (is_live frames) (concat lists ++ held old.memory term)))
       of_told None t = tt
@@ -227,3 +236,22 @@ told-both old term frames (Some content) made_of all t = λ stored h k.
 -- the parts' addresses were put after none, and then those in memory
 pub put_both : (none found all parts more : List ℕ) → none ≡ [] → found ≡ none ++ parts → all ≡ found ++ more → all ≡ parts ++ more
 put_both none found all parts more n f a = a ∙ ap (λ (l : List ℕ). l ++ more) (f ∙ ap (λ (l : List ℕ). l ++ parts) n)
+
+-- those of gathered addresses that lie in the frames, where in memory only those were looked for
+pub live_twice : (frames : List Range) (gathered found more : List ℕ) → gathered ≡ found ++ filter (is_live frames) more
+    → filter (is_live frames) gathered ≡ filter (is_live frames) found ++ filter (is_live frames) more
+live_twice frames gathered found more e =
+    ap (filter (is_live frames)) e
+    ∙ filter-append (is_live frames) found (filter (is_live frames) more)
+    ∙ ap (λ (l : List ℕ). filter (is_live frames) found ++ l) (twice more)
+  where
+    twice : (xs : List ℕ) → filter (is_live frames) (filter (is_live frames) xs) ≡ filter (is_live frames) xs
+    twice [] = refl
+    twice (x ∷ xs) =
+        elim (is_live frames x) as
+        (λ b. is_live frames x ≡ b
+        → filter (is_live frames) (cond b (x ∷ filter (is_live frames) xs) (filter (is_live frames) xs))
+        ≡ cond b (x ∷ filter (is_live frames) xs) (filter (is_live frames) xs)) [
+          | true ↦ λ t. rw t (ap (λ (l : List ℕ). x ∷ l) (twice xs))
+          | false ↦ λ f. twice xs
+        ] refl

@@ -12,13 +12,13 @@ use Rattle.wu_outside.specs.declared.ranges.ReadRange.{ReadRange}
 use Rattle.wu_part.specs.Parts.{IsRecorded, IsNoPart}
 use Rattle.wu_lists.specs.Blocks.{needed}
 use Rattle.wu_lists.specs.Causes.{IsCause}
-use Rattle.wu_lists.specs.Fetching.{AreFetched, HasTerm}
+use Rattle.wu_lists.specs.Fetching.{AreGathered, HasTerm}
 use Rattle.wu_lists.specs.Keeping.{Asks, Kept, all_missing}
 use Rattle.wu_parts.specs.Causes.{IsFetchCause}
 use Rattle.wu_parts.specs.Holdings.{all_needed}
-use Rattle.wu_parts.specs.StoredParts.{AreFetchedFrom, pairs_of}
+use Rattle.wu_parts.specs.StoredParts.{AreGatheredFrom, pairs_of}
 use Rattle.wu_parts.specs.declared.writing.StoredPart.{StoredPart}
-use Rattle.wu_parts.proofs.FetchedAddresses.{fetched-first, fetched-none}
+use Rattle.wu_parts.proofs.FetchedAddresses.{gathered-first, gathered-none}
 use Rattle.wu_lists.specs.Gaining.{Gains}
 use Rattle.wu_lists.proofs.Asking.{asks-join, asks-none}
 use Rattle.wu_parts.proofs.Asking.{cause-first, cause-later}
@@ -41,8 +41,8 @@ pub record GainsTo {X : Type 0} (Gain : List ℕ → X → X → Type 0) (parts 
     (holds : Option Content) (old now : Kept) (before after : X) : Type 0 where
   pub more : List ℕ
   pub gained : Gain more before after
-  pub leads : (rest : List ℕ) → AreFetchedFrom left term frames holds now rest
-      → AreFetchedFrom parts term frames holds old (more ++ rest)
+  pub leads : (rest : List ℕ) → AreGatheredFrom left term frames holds now rest
+      → AreGatheredFrom parts term frames holds old (more ++ rest)
 
 module _ (parts : List StoredPart) (term : List ℕ) (frames : List Range) (holds : Option Content) (old : Kept) where
   pub leads-none : (ranges : Option (List ReadRange)) → Leads parts parts term frames holds old old ranges ranges
@@ -91,11 +91,11 @@ module _ (parts : List StoredPart) (term : List ℕ) (frames : List Range) (hold
 
   pub gains_to-end : {X : Type 0} (Gain : List ℕ → X → X → Type 0) (before after : X) (left : List StoredPart) → left ≡ []
       → GainsTo Gain parts left term frames holds old now before after
-      → Gains Gain (AreFetchedFrom parts term frames holds old) before after
+      → Gains Gain (AreGatheredFrom parts term frames holds old) before after
   gains_to-end Gain before after [] e g = record {
     more = g.more;
     gained = g.gained;
-    kind = subst (AreFetchedFrom parts term frames holds old) (append-nil g.more) (g.leads [] (fetched-none term frames holds now));
+    kind = subst (AreGatheredFrom parts term frames holds old) (append-nil g.more) (g.leads [] (gathered-none term frames holds now));
   }
   gains_to-end Gain before after (part ∷ left) e g = absurd cc
 
@@ -154,27 +154,27 @@ module _ (parts : List StoredPart) (place : ℕ) (part : StoredPart) (term : Lis
       → (before middle after : X) → GainsTo Gain parts (drop place parts) term frames holds old now before middle
       → (next : Kept) (ranges_next : Option (List ReadRange)) → AllByRecursion (λ p. IsRecorded p.recorded p.directory) parts
       → Gains Gain
-      (AreFetched (HasTerm part.directory term) frames part.recorded.blob part.directory.low (part.directory.high + 1) holds_now now)
+      (AreGathered (HasTerm part.directory term) frames part.recorded.blob part.directory.low (part.directory.high + 1) holds_now now)
       middle after
       → Asks (needed part.recorded.blob part.directory term frames) holds_now now next ranges_now ranges_next
       → GainsTo Gain parts (drop (place + 1) parts) term frames holds old next before after
   turn-gains Gain joins before middle after l next ranges_next told g a =
-      let leads : (rest : List ℕ) → AreFetchedFrom (part ∷ drop (place + 1) parts) term frames holds now rest
-      → AreFetchedFrom parts term frames holds old (l.more ++ rest) =
+      let leads : (rest : List ℕ) → AreGatheredFrom (part ∷ drop (place + 1) parts) term frames holds now rest
+      → AreGatheredFrom parts term frames holds old (l.more ++ rest) =
       subst
-      (λ (left : List StoredPart). (rest : List ℕ) → AreFetchedFrom left term frames holds now rest
-      → AreFetchedFrom parts term frames holds old (l.more ++ rest))
+      (λ (left : List StoredPart). (rest : List ℕ) → AreGatheredFrom left term frames holds now rest
+      → AreGatheredFrom parts term frames holds old (l.more ++ rest))
       (left_at parts place part within is) l.leads in
       record {
         more = l.more ++ g.more;
         gained = joins l.more g.more before middle after l.gained g.gained;
         leads = λ rest f.
-            subst (AreFetchedFrom parts term frames holds old) (sym (append_assoc l.more g.more rest))
+            subst (AreGatheredFrom parts term frames holds old) (sym (append_assoc l.more g.more rest))
             (leads (g.more ++ rest)
-            (fetched-first part (drop (place + 1) parts) term frames now next g.more rest (told_at parts place part told within is) holds
+            (gathered-first part (drop (place + 1) parts) term frames now next g.more rest (told_at parts place part told within is) holds
             (needed part.recorded.blob part.directory term frames) ranges_now ranges_next
             (subst
-            (λ (h : Option Content). AreFetched (HasTerm part.directory term) frames part.recorded.blob part.directory.low
+            (λ (h : Option Content). AreGathered (HasTerm part.directory term) frames part.recorded.blob part.directory.low
             (part.directory.high + 1) h now g.more)
             same g.kind)
             (subst (λ (h : Option Content). Asks (needed part.recorded.blob part.directory term frames) h now next ranges_now ranges_next)

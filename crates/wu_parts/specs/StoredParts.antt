@@ -1,5 +1,5 @@
 -- The parts of the index as they are kept, and how one more comes to be.
-use Rattle.std.specs.Prelude.{◌≡◌, ℕ, ◌+◌, ◌<◌, ◌≤◌, ◌^◌, true, List, [], ◌∷◌, Option, IfSome, IsPermutation, filter, length, map, zip}
+use Rattle.std.specs.Prelude.{◌≡◌, ℕ, ◌+◌, ◌<◌, ◌≤◌, ◌^◌, List, [], ◌∷◌, Option, IfSome, IsPermutation, filter, length, map, zip}
 use Rattle.std.specs.List.{AllByRecursion, concat}
 use Rattle.wu_base.specs.declared.addresses.PartRec.{PartRec}
 use Rattle.wu_base.specs.declared.addresses.Range.{Range}
@@ -97,18 +97,17 @@ pub record AreSound (low next_blob flushes : ℕ) (parts : List StoredPart) (und
 
 -- ---- fetching
 
--- The addresses ascend within the parts' spans and lie in the frames. Where the store tells at which addresses the parts have the term, and
--- what is kept of the parts is what it has, they are those of these addresses that lie in the frames, part by part.
-pub record AreFetchedFrom (parts : List StoredPart) (term : List ℕ) (frames : List Range) (holds : Option Content) (kept : Kept)
-    (found : List ℕ) : Type 0 where
-  pub ascend : (low high : ℕ) → SpansAscend low high parts → AscendBetween low high found
-  pub live : AllByRecursion (λ address. is_live frames address ≡ true) found
+-- The addresses ascend within the parts' spans. Where the store tells at which addresses the parts have the term, and what is kept of the
+-- parts is what it has, those of them that lie in the frames are those of these addresses that do, part by part.
+pub record AreGatheredFrom (parts : List StoredPart) (term : List ℕ) (frames : List Range) (holds : Option Content) (kept : Kept)
+    (gathered : List ℕ) : Type 0 where
+  pub ascend : (low high : ℕ) → SpansAscend low high parts → AscendBetween low high gathered
   pub told : IfSome holds (λ content. (lists : List (List ℕ)) → HoldTerm content term (pairs_of parts) lists
-      → AreKept content (records_of parts) kept → found ≡ filter (is_live frames) (concat lists))
+      → AreKept content (records_of parts) kept → filter (is_live frames) gathered ≡ filter (is_live frames) (concat lists))
 
 -- the same of the parts that contracts see: the addresses ascend below those in memory
-pub record AreFetchedIn (contents : Contents) (term : List ℕ) (frames : List Range) (holds : Option Content) (found : List ℕ) : Type 0 where
-  pub ascend : AscendBetween 0 contents.memory.low found
-  pub live : AllByRecursion (λ address. is_live frames address ≡ true) found
+pub record AreGatheredIn (contents : Contents) (term : List ℕ) (frames : List Range) (holds : Option Content) (gathered : List ℕ)
+    : Type 0 where
+  pub ascend : AscendBetween 0 contents.memory.low gathered
   pub told : IfSome holds (λ content. (lists : List (List ℕ)) → HoldTerm content term (zip contents.parts contents.directories) lists
-      → AreKept content contents.parts contents.kept → found ≡ filter (is_live frames) (concat lists))
+      → AreKept content contents.parts contents.kept → filter (is_live frames) gathered ≡ filter (is_live frames) (concat lists))

@@ -10,12 +10,13 @@ ghost use Rattle.wu_lists.specs.Gaining.{Gains};
 ghost use Rattle.wu_lists.specs.Tallying.{tally_of};
 ghost use Rattle.wu_parts.specs.Causes.{IsAskCause};
 ghost use Rattle.wu_parts.specs.Holdings.{AreKept, AsksParts, HoldParts, HoldTerm};
-ghost use Rattle.wu_parts.specs.StoredParts.{AreFetchedIn};
+ghost use Rattle.wu_parts.specs.StoredParts.{AreGatheredIn};
 
+use crate::gathered::Gathered;
 use crate::parts::Parts;
 use crate::reading::walk_parts;
 use wu_base::{ADDRESSES_MAX, NoMemory, Range, Sequence, Trouble};
-use wu_lists::{AddressSink, Discard, Tally};
+use wu_lists::{AddressSink, Discard, GatheredBlocks, Tally};
 use wu_outside::Store;
 
 impl Parts {
@@ -73,6 +74,43 @@ impl Parts {
         self.walk(store, term, frames, &mut found)?;
         self.memory.fetch_into(term, frames, &mut found)?;
         Ok(Sequence::from(found))
+    }
+
+    /// The addresses of the term as [`Parts::fetch`] gives them, gathered: what is read and kept is the
+    /// same, and they are decoded when they are asked for, where they are asked for.
+    ///
+    /// A part is damaged where [`Parts::fetch`] would find it so.
+    pub fn gather<D: Store>(
+        &mut self,
+        store: &mut D,
+        term: &[u8],
+        frames: &[Range],
+    ) -> Result<Gathered, Trouble>
+        requires apart { AreApart frames.now }
+        requires bounded { All (λ frame. frame.start + frame.len ≤ ADDRESSES_MAX) frames.now }
+        ensures lists { IfOk result (λ gathered. IfSome (D.holds store.old) (λ content. (lists : List (List ℕ))
+            → HoldTerm content term.now (zip self.old.parts self.old.directories) lists → AreKept content self.old.parts self.old.kept
+            → filter (is_live frames.now) gathered
+            ≡ filter (is_live frames.now) (concat lists ++ held self.old.memory term.now))) }
+        ensures addresses { IfOk result (λ gathered. IfSome (D.holds store.old) (λ content. (parts : List Part)
+            → HoldParts content self.old.parts self.old.directories parts → AreKept content self.old.parts self.old.kept
+            → filter (is_live frames.now) gathered
+            ≡ fetched frames.now (postings_in parts) term.now ++ filter (is_live frames.now) (held self.old.memory term.now))) }
+
+        ensures blocks { OnOk result (AsksParts self.old term.now frames.now (D.holds store.old) self.new.kept
+            (D.reads store.old) (D.reads store.new)) }
+        ensures others { self.new ≡ record self.old { kept = self.new.kept } }
+
+        ensures holds { D.holds store.new ≡ D.holds store.old }
+        ensures moments { D.moments store.new ≡ D.moments store.old }
+        ensures calm { OnOk result (D.faults store.new ≡ D.faults store.old) }
+        ensures cause { IfErr result (IsAskCause self.old term.now frames.now (D.holds store.old)
+            (D.faults store.old) (D.faults store.new) (D.reads store.old) (D.reads store.new)) }
+    {
+        let mut blocks = GatheredBlocks::new(self.alloc);
+        self.walk(store, term, frames, &mut blocks)?;
+        let memory = self.memory.fetch(term, frames)?;
+        Ok(Gathered { blocks, memory })
     }
 
     /// How many addresses [`Parts::fetch`] gives, and in how many of the frames one lies. Asks for the same blocks.
@@ -141,7 +179,7 @@ impl Parts {
     }
 
     /// Asks for the blocks of the term that the frames need in the parts, from left to right. A sink that wants them
-    /// gains the addresses that lie in the frames.
+    /// gains the blocks' addresses.
     fn walk<D: Store, S: AddressSink>(
         &mut self,
         store: &mut D,
@@ -152,7 +190,7 @@ impl Parts {
         requires apart { AreApart frames.now }
         requires bounded { All (λ frame. frame.start + frame.len ≤ ADDRESSES_MAX) frames.now }
         ensures addresses { OnOk result (S.wanted ≡ true → Gains (S.gained frames.now)
-            (AreFetchedIn self.old term.now frames.now (D.holds store.old)) found.old found.new) }
+            (AreGatheredIn self.old term.now frames.now (D.holds store.old)) found.old found.new) }
         ensures blocks { OnOk result (AsksParts self.old term.now frames.now (D.holds store.old) self.new.kept
             (D.reads store.old) (D.reads store.new)) }
         ensures others { self.new ≡ record self.old { kept = self.new.kept } }

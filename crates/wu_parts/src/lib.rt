@@ -9,6 +9,7 @@ mod chains;
 mod fetching;
 mod flushing;
 mod frames;
+mod gathered;
 mod loading;
 mod memory;
 mod parts;
@@ -16,4 +17,5 @@ mod reading;
 mod working;
 mod writing;
 
+pub use gathered::Gathered;
 pub use parts::{BLOCKS_KEPT, Parts};

@@ -221,6 +221,7 @@ impl MemoryPostings {
         requires bounded { All (λ frame. frame.start + frame.len ≤ ADDRESSES_MAX) frames.now }
         ensures addresses { IfOk result (λ found. found ≡ filter (is_live frames.now) (held self.now term.now)) }
         ensures ascend { IfOk result (AscendBetween self.now.low self.now.end) }
+        ensures bounded { self.now.end ≤ ADDRESSES_MAX }
     {
         let mut found = Vec::new(self.alloc);
         self.fetch_into(term, frames, &mut found)?;
@@ -238,6 +239,7 @@ impl MemoryPostings {
         requires bounded { All (λ frame. frame.start + frame.len ≤ ADDRESSES_MAX) frames.now }
         ensures addresses { OnOk result (found.new.items ≡ found.old.items ++ filter (is_live frames.now) (held self.now term.now)) }
         ensures ascend { AscendBetween self.now.low self.now.end (filter (is_live frames.now) (held self.now term.now)) }
+        ensures bounded { self.now.end ≤ ADDRESSES_MAX }
     {
         let addresses = self.addresses_near(term, frames)?;
         put_within(found, &addresses, frames)

@@ -7,7 +7,7 @@ ghost use Rattle.wu_lists.specs.Gaining.{Gains};
 ghost use Rattle.wu_lists.specs.Keeping.{Asks};
 ghost use Rattle.wu_parts.specs.Causes.{IsPartsCause};
 ghost use Rattle.wu_parts.specs.Holdings.{all_needed};
-ghost use Rattle.wu_parts.specs.StoredParts.{AreFetchedFrom, pairs_of};
+ghost use Rattle.wu_parts.specs.StoredParts.{AreGatheredFrom, pairs_of};
 
 use crate::writing::StoredPart;
 use wu_base::{ADDRESSES_MAX, Range, Trouble};
@@ -15,7 +15,7 @@ use wu_lists::{AddressSink, Lists};
 use wu_outside::Store;
 
 /// Asks for the blocks of the term that the frames need in the parts, from left to right. A sink that wants them
-/// gains the addresses that lie in the frames.
+/// gains the blocks' addresses.
 pub(crate) fn walk_parts<D: Store, S: AddressSink>(
     store: &mut D,
     lists: &mut Lists,
@@ -28,7 +28,7 @@ pub(crate) fn walk_parts<D: Store, S: AddressSink>(
     requires bounded { All (λ frame. frame.start + frame.len ≤ ADDRESSES_MAX) frames.now }
     requires told { AllByRecursion (λ part. IsRecorded part.recorded part.directory) parts.now }
     ensures addresses { OnOk result (S.wanted ≡ true → Gains (S.gained frames.now)
-        (AreFetchedFrom parts.now term.now frames.now (D.holds store.old) lists.old) found.old found.new) }
+        (AreGatheredFrom parts.now term.now frames.now (D.holds store.old) lists.old) found.old found.new) }
     ensures blocks { OnOk result (Asks (all_needed (pairs_of parts.now) term.now frames.now) (D.holds store.old) lists.old lists.new
         (D.reads store.old) (D.reads store.new)) }
     ensures holds { D.holds store.new ≡ D.holds store.old }

@@ -1,8 +1,7 @@
 use Rattle.std.proofs.Common.{◌-◌, ◌^◌, ◌≡◌, ◌∙◌, filter, get_or, ap, arith}
 use Rattle.wu_layout.specs.Postings.{is_live}
 use Rattle.wu_lists.proofs.Ascending.{all_from, ascend-filter, ascend-first}
-use Rattle.wu_lists.specs.Gaining.{tally_on, tally_on-alike}
-use Rattle.wu_lists.proofs.Spans.{filter-alike}
+use Rattle.wu_lists.specs.Gaining.{filter-alike, tally_on, tally_on-alike}
 use Rattle.wu_lists.proofs.frames.frames_for.Goals as goal
 
 pub returns-in-len1-up-clause-same : goal.returns-in-len1-up-clause-same

@@ -1,17 +1,16 @@
-use Rattle.std.proofs.Common.{◌-◌, ◌^◌, ◌≡◌, ◌+◌, List, [], ◌∷◌, true, false, filter, sym, ◌∙◌, subst, arith, rules}
+use Rattle.std.proofs.Common.{◌-◌, ◌^◌, ◌≡◌, ◌+◌, List, [], ◌∷◌, true, false, sym, ◌∙◌, subst, arith, rules}
 use Rattle.wu_base.proofs.Results.{on_err}
-use Rattle.wu_layout.specs.Postings.{is_live}
 use Rattle.wu_lists.specs.declared.blocks.Block.{Block}
 use Rattle.wu_lists.specs.Keeping.{Asks, AsksFirst}
 use Rattle.wu_lists.proofs.Ascending.{ascend-higher, ascend-lower}
 use Rattle.wu_lists.proofs.Asking.{asks-none, first-all}
-use Rattle.wu_lists.proofs.Fetches.{fetched-none, fetched-some, needed-nothing, needed-one}
+use Rattle.wu_lists.proofs.Fetches.{gathered-none, gathered-some, needed-nothing, needed-one}
 use Rattle.wu_lists.proofs.lists.Lists.put_block.Goals as goal
 
 pub returns-then-not-is_needed-clause-addresses : goal.returns-then-not-is_needed-clause-addresses
 returns-then-not-is_needed-clause-addresses g c =
     let missed : c.is_needed.result ≡ false = search rules in
-    fetched-none _ (g.S.AddressSink.gained c.args.frames.now) c.args.block.now c.args.frames.now (g.D.Store.holds c.args.store.now)
+    gathered-none _ (g.S.AddressSink.gained c.args.frames.now) c.args.block.now c.args.frames.now (g.D.Store.holds c.args.store.now)
     c.args.self.now c.args.found.now (g.met.S.AddressSink.none c.args.frames.now c.args.found.now) c.requires.span
     (sym c.is_needed.ensures ∙ missed)
 
@@ -53,9 +52,9 @@ gain-requires-clause-ascend g c =
 pub returns-clause-addresses : goal.returns-clause-addresses
 returns-clause-addresses g c =
     let frames = c.args.frames.now in
-    let gained : g.S.AddressSink.gained frames (filter (is_live frames) c.in_ok-addresses.addresses.items) c.args.found.now c.gain.new.self =
-    rw c.deref.ensures.value at c.in_ok-gain.ensures.ok in
-    fetched-some _ (g.S.AddressSink.gained frames) c.args.block.now frames (g.D.Store.holds c.args.store.now) c.args.self.now c.args.found.now
+    let gained : g.S.AddressSink.gained frames c.in_ok-addresses.addresses.items c.args.found.now c.gain.new.self =
+    (rw c.deref.ensures.value at c.in_ok-gain.ensures.ok) c.requires.given in
+    gathered-some _ (g.S.AddressSink.gained frames) c.args.block.now frames (g.D.Store.holds c.args.store.now) c.args.self.now c.args.found.now
     c.gain.new.self c.in_ok-addresses.addresses.items c.in_ok-addresses.ensures.ascend c.in_ok-addresses.ensures.told gained
 
 pub returns-clause-blocks : goal.returns-clause-blocks

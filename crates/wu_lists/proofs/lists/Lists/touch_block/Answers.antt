@@ -1,12 +1,12 @@
-use Rattle.std.proofs.Common.{◌≡◌, List, [], ◌∷◌, true, false, filter, refl, sym, ◌∙◌, ap, subst, rules}
-use Rattle.std.specs.List.{list_any}
+use Rattle.std.proofs.Common.{◌≡◌, List, true, false, sym, ◌∙◌, subst, rules}
+use Rattle.std.specs.Prelude.{IfErr, IfSome, OnErr, OnOk}
 use Rattle.std.specs.Map.{keys_of}
-use Rattle.wu_base.proofs.Results.{on_err}
-use Rattle.wu_lists.specs.Blocks.{meets}
+use Rattle.wu_lists.specs.Blocks.{IsSpelledIn}
+use Rattle.wu_lists.specs.Causes.{IsCause}
 use Rattle.wu_lists.specs.declared.blocks.Block.{Block}
-use Rattle.wu_lists.specs.Keeping.{Asks, Kept, is_same}
-use Rattle.wu_lists.proofs.Asking.{asks-none, first-none}
-use Rattle.wu_lists.proofs.Fetches.{asks-kept, needed-nothing, needed-one}
+use Rattle.wu_lists.specs.Keeping.{Asks, AsksFirst, all_missing}
+use Rattle.wu_lists.proofs.Asking.{asks-none}
+use Rattle.wu_lists.proofs.Fetches.{needed-nothing, needed-one}
 use Rattle.wu_lists.proofs.lists.Lists.touch_block.Goals as goal
 
 pub returns-then-not-is_needed-clause-blocks : goal.returns-then-not-is_needed-clause-blocks
@@ -17,26 +17,25 @@ returns-then-not-is_needed-clause-blocks g c =
     (sym (needed-nothing c.args.frames.now c.args.block.now (sym c.is_needed.ensures ∙ missed)))
     (asks-none (g.D.Store.holds c.args.store.now) c.args.self.now (g.D.Store.reads c.args.store.now))
 
-pub returns-then-is_kept-clause-blocks : goal.returns-then-is_kept-clause-blocks
-returns-then-is_kept-clause-blocks g c =
+pub returns-clause-blocks : goal.returns-clause-blocks
+returns-clause-blocks g c =
     let needed : c.is_needed.result ≡ true = search rules in
-    let kept : c.is_kept.result ≡ true = search rules in
-    subst (λ (bs : List Block). Asks bs (g.D.Store.holds c.args.store.now) c.args.self.now c.is_kept.new.self
-    (g.D.Store.reads c.args.store.now) (g.D.Store.reads c.args.store.now))
-    (sym (needed-one c.args.frames.now c.args.block.now (sym c.is_needed.ensures ∙ needed)))
-    (asks-kept c.args.block.now (g.D.Store.holds c.args.store.now) c.args.self.now c.is_kept.new.self
-    (g.D.Store.reads c.args.store.now) (g.D.Store.reads c.args.store.now) c.is_kept.ensures.capacity (c.is_kept.ensures.asked kept)
-    (sym c.is_kept.ensures.kept ∙ kept) refl c.is_kept.ensures.held)
+    subst (λ (bs : List Block). OnOk c.ask.result (Asks bs (g.D.Store.holds c.args.store.now) c.args.self.now c.ask.new.self
+    (g.D.Store.reads c.args.store.now) (g.D.Store.reads c.ask.new.store)))
+    (sym (needed-one c.args.frames.now c.args.block.now (sym c.is_needed.ensures ∙ needed))) c.ask.ensures.blocks
 
-pub read-requires : goal.read-requires
-read-requires g c =
-    let absent : c.is_kept.result ≡ false = search rules in
-    ap (λ (k : Kept). list_any (is_same c.args.block.now) (keys_of k.entries)) (c.is_kept.ensures.absent absent)
-    ∙ sym c.is_kept.ensures.kept ∙ absent
+pub returns-clause-kept : goal.returns-clause-kept
+returns-clause-kept g c =
+    let needed : c.is_needed.result ≡ true = search rules in
+    subst (λ (bs : List Block). OnErr c.ask.result (AsksFirst bs (g.D.Store.holds c.args.store.now) c.args.self.now c.ask.new.self))
+    (sym (needed-one c.args.frames.now c.args.block.now (sym c.is_needed.ensures ∙ needed))) c.ask.ensures.kept
 
-pub returns-in_err-read-clause-kept : goal.returns-in_err-read-clause-kept
-returns-in_err-read-clause-kept g c =
-    let absent : c.is_kept.result ≡ false = search rules in
-    on_err c.from_residual.result
-    (first-none (g.D.Store.holds c.args.store.now) c.args.self.now c.read.new.self
-    (filter (meets c.args.frames.now) (c.args.block.now ∷ [])) (c.in_err-read.ensures.err ∙ c.is_kept.ensures.absent absent))
+pub returns-clause-cause : goal.returns-clause-cause
+returns-clause-cause g c =
+    let needed : c.is_needed.result ≡ true = search rules in
+    let block : Block = c.args.block.now in
+    subst (λ (bs : List Block). IfErr c.ask.result (IsCause (all_missing c.args.self.now.cap (keys_of c.args.self.now.entries) bs) block.blob
+    (IfSome (g.D.Store.holds c.args.store.now) (λ content. IsSpelledIn content block → ⊥))
+    (g.D.Store.faults c.args.store.now) (g.D.Store.faults c.ask.new.store) (g.D.Store.reads c.args.store.now)
+    (g.D.Store.reads c.ask.new.store)))
+    (sym (needed-one c.args.frames.now block (sym c.is_needed.ensures ∙ needed))) c.ask.ensures.cause

@@ -1,6 +1,6 @@
 use Rattle.wu_base.proofs.Results.{on_err}
 use Rattle.wu_lists.proofs.lists.Lists.visit.Goals as goal
 
-pub returns-else-wants-clause-none : goal.returns-else-wants-clause-none
-returns-else-wants-clause-none g c =
+pub returns-then-not-wants-clause-none : goal.returns-then-not-wants-clause-none
+returns-then-not-wants-clause-none g c =
     on_err c.touch_block.result (g.met.S.AddressSink.none c.args.frames.now c.args.found.now)

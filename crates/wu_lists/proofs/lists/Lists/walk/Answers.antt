@@ -10,11 +10,11 @@ use Rattle.wu_lists.specs.Blocks.{IsSpelledIn, blocks_from, meets, needed}
 use Rattle.wu_lists.specs.declared.blocks.Block.{Block}
 use Rattle.wu_lists.specs.Causes.{IsCause}
 use Rattle.wu_part.specs.Parts.{IsNoPart}
-use Rattle.wu_lists.specs.Fetching.{AreFetched, HasBlocks, HasTerm}
+use Rattle.wu_lists.specs.Fetching.{AreGathered, HasBlocks, HasTerm}
 use Rattle.wu_lists.specs.Keeping.{Asks, AsksFirst, all_missing}
 use Rattle.wu_lists.proofs.Ascending.{frames_in_order}
 use Rattle.wu_lists.proofs.Asking.{asks-none, cause-step}
-use Rattle.wu_lists.proofs.Terms.{entry-absent, entry-blocks, entry-found, fetched-absent, fetched-term, needed-absent, needed-found}
+use Rattle.wu_lists.proofs.Terms.{entry-absent, entry-blocks, entry-found, gathered-absent, gathered-term, needed-absent, needed-found}
 use Rattle.wu_lists.proofs.Terms.{no-part}
 use Rattle.wu_lists.proofs.Walks.{gains-none, gains-step}
 use Rattle.wu_lists.proofs.lists.Lists.walk.Goals as goal
@@ -79,13 +79,13 @@ returns-in_ok-walk_blocks-in-Some-clause-addresses g c = λ wanted.
     let there = entry-found directory.terms entry c.args.term.now c.is_spelled.ensures.1.holds.ascending c.in-Some.ensures.0
     c.in-Some.ensures.1 in
     gains-step (g.S.AddressSink.gained c.args.frames.now)
-    (AreFetched (HasBlocks directory.low entry.count entry.blocks) c.args.frames.now c.args.blob directory.low (directory.high + 1)
+    (AreGathered (HasBlocks directory.low entry.count entry.blocks) c.args.frames.now c.args.blob directory.low (directory.high + 1)
     (g.D.Store.holds c.args.store.now) c.args.self.now)
-    (AreFetched (HasTerm directory c.args.term.now) c.args.frames.now c.args.blob directory.low (directory.high + 1)
+    (AreGathered (HasTerm directory c.args.term.now) c.args.frames.now c.args.blob directory.low (directory.high + 1)
     (g.D.Store.holds c.args.store.now) c.args.self.now)
     c.args.found.now c.walk_blocks.new.found
     (λ more f.
-    fetched-term directory c.args.term.now c.args.frames.now c.args.blob directory.low (directory.high + 1)
+    gathered-term directory c.args.term.now c.args.frames.now c.args.blob directory.low (directory.high + 1)
     (g.D.Store.holds c.args.store.now) c.args.self.now entry more there f)
     (c.in_ok-walk_blocks-in-Some.ensures.addresses wanted)
 
@@ -104,10 +104,10 @@ returns-in-None-clause-addresses g c = λ wanted.
     let directory = c.args.dir.now in
     let span = c.is_spelled.ensures.1.holds.span in
     gains-none (g.S.AddressSink.gained c.args.frames.now)
-    (AreFetched (HasTerm directory c.args.term.now) c.args.frames.now c.args.blob directory.low (directory.high + 1)
+    (AreGathered (HasTerm directory c.args.term.now) c.args.frames.now c.args.blob directory.low (directory.high + 1)
     (g.D.Store.holds c.args.store.now) c.args.self.now)
     c.args.found.now (g.met.S.AddressSink.none c.args.frames.now c.args.found.now)
-    (fetched-absent directory c.args.term.now c.args.frames.now c.args.blob directory.low (directory.high + 1)
+    (gathered-absent directory c.args.term.now c.args.frames.now c.args.blob directory.low (directory.high + 1)
     (g.D.Store.holds c.args.store.now) c.args.self.now (entry-absent directory.terms c.args.term.now c.in-None.ensures)
     (omega (arith, span)))
 

@@ -8,7 +8,7 @@ use Rattle.wu_base.proofs.Results.{on_err}
 use Rattle.wu_lists.specs.Blocks.{IsSpelledIn, blocks_from, meets}
 use Rattle.wu_lists.specs.declared.blocks.Block.{Block}
 use Rattle.wu_lists.specs.Causes.{IsCause}
-use Rattle.wu_lists.specs.Fetching.{AreFetched, HasBlock}
+use Rattle.wu_lists.specs.Fetching.{AreGathered, HasBlock}
 use Rattle.wu_lists.specs.Gaining.{Gains}
 use Rattle.wu_lists.specs.Keeping.{Asks, AsksFirst, all_missing}
 use Rattle.wu_lists.proofs.Asking.{cause-join, first-join}
@@ -39,7 +39,7 @@ loop-block-preserved g c =
     (g.D.Store.reads c.visit.new.store) =
     rw (c.low.ensures, c.loop-block.invariant.holds) at c.in_ok-visit.ensures.blocks in
     let gains : g.S.AddressSink.wanted ≡ true
-    → Gains (g.S.AddressSink.gained nearer) (AreFetched (HasBlock block) nearer blob entry.first (entry.last + 1) holds c.loop-block.self)
+    → Gains (g.S.AddressSink.gained nearer) (AreGathered (HasBlock block) nearer blob entry.first (entry.last + 1) holds c.loop-block.self)
     c.loop-block.found c.visit.new.found =
     rw (c.low.ensures, c.loop-block.invariant.holds) at c.in_ok-visit.ensures.addresses in
     record {

@@ -1,4 +1,4 @@
-use Rattle.std.proofs.Common.{◌≡◌, ℕ, true, List, refl, ap, sym, subst, ◌∙◌}
+use Rattle.std.proofs.Common.{◌≡◌, ℕ, true, List, filter, refl, ap, sym, subst, ◌∙◌}
 use Rattle.std.specs.List.{AllByRecursion}
 use Rattle.wu_base.proofs.EachLemmas.{each-append, each-filter}
 use Rattle.wu_layout.specs.Postings.{is_live}
@@ -7,7 +7,7 @@ use Rattle.wu_lists.proofs.Ascending.{addresses_increase}
 use Rattle.wu_parts.specs.Contents.{Contents}
 use Rattle.wu_parts.specs.Memory.{Memory, held}
 use Rattle.wu_parts.proofs.Asking.{cause-after}
-use Rattle.wu_parts.proofs.FetchedAddresses.{ascend-both, lists-both, put_both, told-both}
+use Rattle.wu_parts.proofs.FetchedAddresses.{ascend-live, lists-both, put_both, told-both}
 use Rattle.wu_parts.proofs.parts.Parts.fetch.Goals as goal
 
 pub returns-in_err-fetch_into-clause-cause : goal.returns-in_err-fetch_into-clause-cause
@@ -39,7 +39,7 @@ returns-clause-ascending g c =
     addresses_increase 0 memory.end c.from.result
     (subst (AscendBetween 0 memory.end)
     (sym (put_both _ _ _ _ _ c.new-found.ensures.items gains.gained (c.from.ensures ∙ c.in_ok-fetch_into.ensures.addresses)))
-    (ascend-both c.args.self.now memory same c.args.term.now c.args.frames.now (g.D.Store.holds c.args.store.now) gains.more gains.kind _
+    (ascend-live c.args.self.now memory same c.args.term.now c.args.frames.now (g.D.Store.holds c.args.store.now) gains.more gains.kind _
     c.fetch_into.ensures.ascend))
 
 pub returns-clause-live : goal.returns-clause-live
@@ -48,5 +48,5 @@ returns-clause-live g c =
     let gains = c.in_ok-walk.ensures.addresses refl in
     subst (AllByRecursion (λ address. is_live frames address ≡ true))
     (sym (put_both _ _ _ _ _ c.new-found.ensures.items gains.gained (c.from.ensures ∙ c.in_ok-fetch_into.ensures.addresses)))
-    (each-append (λ address. is_live frames address ≡ true) gains.more _
-    gains.kind.live (each-filter (is_live frames) (held c.self-2.inside.memory c.args.term.now)))
+    (each-append (λ address. is_live frames address ≡ true) (filter (is_live frames) gains.more) _
+    (each-filter (is_live frames) gains.more) (each-filter (is_live frames) (held c.self-2.inside.memory c.args.term.now)))

@@ -1,4 +1,4 @@
-use Rattle.std.proofs.Common.{◌≡◌, refl, ap, ◌∙◌}
+use Rattle.std.proofs.Common.{◌≡◌, filter, refl, ap, ◌∙◌}
 use Rattle.wu_base.proofs.EachLemmas.{each-filter}
 use Rattle.wu_layout.specs.Postings.{is_live}
 use Rattle.wu_lists.specs.Tallying.{tally_of}
@@ -7,7 +7,7 @@ use Rattle.wu_parts.specs.Contents.{Contents}
 use Rattle.wu_parts.specs.Memory.{Memory, held}
 use Rattle.wu_parts.proofs.Asking.{cause-after}
 use Rattle.wu_parts.proofs.Counting.{all_counted, some_counted}
-use Rattle.wu_parts.proofs.FetchedAddresses.{ascend-both, lists-both, told-both}
+use Rattle.wu_parts.proofs.FetchedAddresses.{ascend-live, lists-both, told-both}
 use Rattle.wu_parts.proofs.parts.Parts.tally.Goals as goal
 
 pub returns-in_err-tally_into-clause-cause : goal.returns-in_err-tally_into-clause-cause
@@ -25,8 +25,8 @@ returns-clause-lists g c =
     let same : memory ≡ c.args.self.now.memory = ap (λ (k : Contents). k.memory) (c.self.view_is ∙ c.in_ok-walk.ensures.others) in
     lists-both c.args.self.now memory same c.args.term.now frames (g.D.Store.holds c.args.store.now) gains.more gains.kind
     (tally_of frames) c.tally_into.new.tally
-    (all_counted frames memory.end gains.more _ c.new-tally.result c.walk.new.found _
-    (ascend-both c.args.self.now memory same c.args.term.now frames (g.D.Store.holds c.args.store.now) gains.more gains.kind _
+    (all_counted frames memory.end (filter (is_live frames) gains.more) _ c.new-tally.result c.walk.new.found _
+    (ascend-live c.args.self.now memory same c.args.term.now frames (g.D.Store.holds c.args.store.now) gains.more gains.kind _
     c.in_ok-tally_into.ensures.ascend)
     c.in_ok-tally_into.ensures.bounded (frames_in_order frames c.requires.apart c.requires.bounded) (c.new-tally.ensures frames)
     gains.gained c.in_ok-tally_into.ensures.addresses)
@@ -42,8 +42,8 @@ returns-clause-counted g c =
     let gains = c.in_ok-walk.ensures.addresses refl in
     let memory : Memory = c.self.inside.memory in
     let same : memory ≡ c.args.self.now.memory = ap (λ (k : Contents). k.memory) (c.self.view_is ∙ c.in_ok-walk.ensures.others) in
-    some_counted frames memory.end gains.more _ c.new-tally.result c.walk.new.found _
-    (ascend-both c.args.self.now memory same c.args.term.now frames (g.D.Store.holds c.args.store.now) gains.more gains.kind _
+    some_counted frames memory.end (filter (is_live frames) gains.more) _ c.new-tally.result c.walk.new.found _
+    (ascend-live c.args.self.now memory same c.args.term.now frames (g.D.Store.holds c.args.store.now) gains.more gains.kind _
     c.in_ok-tally_into.ensures.ascend)
     c.in_ok-tally_into.ensures.bounded (frames_in_order frames c.requires.apart c.requires.bounded) (c.new-tally.ensures frames)
-    gains.gained c.in_ok-tally_into.ensures.addresses gains.kind.live (each-filter (is_live frames) (held memory c.args.term.now))
+    gains.gained c.in_ok-tally_into.ensures.addresses (each-filter (is_live frames) gains.more) (each-filter (is_live frames) (held memory c.args.term.now))

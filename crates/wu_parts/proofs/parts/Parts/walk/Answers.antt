@@ -1,7 +1,7 @@
 use Rattle.std.proofs.Common.{refl}
 use Rattle.wu_parts.specs.ViewOfParts.{contents_of}
 use Rattle.wu_parts.proofs.Asking.{asks-told, cause-told}
-use Rattle.wu_parts.proofs.FetchedAddresses.{fetched-seen}
+use Rattle.wu_parts.proofs.FetchedAddresses.{gathered-seen}
 use Rattle.wu_parts.proofs.parts.Parts.walk.Goals as goal
 
 pub returns-in_err-walk_parts-clause-cause : goal.returns-in_err-walk_parts-clause-cause
@@ -24,7 +24,7 @@ returns-clause-addresses g c = λ wanted.
     record {
       more = gains.more;
       gained = gains.gained;
-      kind = fetched-seen c.args.self.now (contents_of c.self.inside) c.self.inside.parts.items c.as_slice-parts.result.now c.self.view_is
+      kind = gathered-seen c.args.self.now (contents_of c.self.inside) c.self.inside.parts.items c.as_slice-parts.result.now c.self.view_is
           refl refl c.as_slice-parts.ensures.value c.args.term.now c.args.frames.now (g.D.Store.holds c.args.store.now) gains.more
           c.self.invariant.stored.spans gains.kind;
     }
