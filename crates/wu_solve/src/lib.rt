@@ -25,5 +25,6 @@ mod windows;
 pub use counting::{Counts, count, count_apart, only_term};
 pub use laws::{extents_ascend, frames_of_texts, needed_terms_stand};
 pub use lookup::find_term;
+pub use meeting::frames_met;
 pub use needed::needed_terms;
 pub use solving::{solve, solve_apart};

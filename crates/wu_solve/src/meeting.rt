@@ -82,8 +82,13 @@ fn rarest_addresses<'a>(terms: &[Bytes], lists: &'a [TermList]) -> Option<&'a [u
     Some(addresses_of(lists, terms[place].as_slice()))
 }
 
-/// The frames in which one of the addresses lies.
-fn frames_met(alloc: Global, addresses: &[u64], frames: &[Range]) -> Result<Vec<Range>, NoMemory>
+/// The frames in which one of the addresses lies, by walking both side by side: where there are few
+/// of either, the others are passed over by steps that double. The one error is out of memory.
+pub fn frames_met(
+    alloc: Global,
+    addresses: &[u64],
+    frames: &[Range],
+) -> Result<Vec<Range>, NoMemory>
     requires ascending { IsStrictlyIncreasing addresses.now }
     requires frames { All IsFrame frames.now }
     requires apart { AreApart frames.now }
