@@ -26,6 +26,7 @@ use Rattle.wu_parts.specs.Contents.{Contents}
 use Rattle.wu_query.specs.Causes.{IsBlobOf, IsBrokenIn, IsDamagedAt, IsDamagedFor, IsDamagedIn, IsDamagedOf, IsDamagedOver, IsDamagedText}
 use Rattle.wu_query.specs.Finding.{IsBrokenShown, IsCause, IsQueryCause, extents_of, hits_at, hits_recorded, is_at_place, looked_through, text_at}
 use Rattle.wu_query.specs.Finding.{text_recorded, with_units}
+use Rattle.wu_query.specs.Near.{HaveSameExtents}
 use Rattle.wu_query.specs.Reads.{text_ranges}
 use Rattle.wu_query.specs.Records.{Records, record_at}
 use Rattle.wu_query.specs.Searched.{TellsPostings}
@@ -89,7 +90,8 @@ module _ (P : Seen → Type 0) where
 -- a broken text that a search reads is one that it finds damaged over its frames
 module _ (frames : Frames) (contents : Contents) (files : Records) (holds : Option Content) (region : Region) (terms : List (List ℕ))
     (are : AreTerms region terms) (lists : List TermList)
-    (lists_are : (s : State) → TellsPostings contents holds s → lists ≡ map (list_at (found_in frames.ranges s)) terms)
+    (same : (s : State) → TellsPostings contents holds s
+    → HaveSameExtents region frames.ranges lists (map (list_at (found_in frames.ranges s)) terms))
     (k : ℕ) (few : Bool) where
   text_needed : (blob : ℕ) → IsBrokenShown files holds region lists k (looked_through few region lists frames) blob
       → IsDamagedText frames (Finding k region) contents files holds blob
@@ -101,24 +103,25 @@ module _ (frames : Frames) (contents : Contents) (files : Records) (holds : Opti
         (none_shown files (hits_at files region lists) k (looked_through few region lists frames) none) broken.0;
     shown = λ live s uid is tells records.
         subst (λ (texts : List ReadRange). IsBlobOf texts blob)
-        (looked_texts frames live s uid is region terms are files lists (lists_are s tells) k few records) broken.0;
+        (looked_texts frames live s uid is region terms are files lists (same s tells) k few records) broken.0;
   }
 
 -- a trouble with a text, after calls that only read of the store
 pub cause_of_text : {T : Type 0} (r : Result T Trouble) (frames : Frames) (contents : Contents) (files : Records)
     (holds : Option Content) {trouble : Trouble} → IsErrAnd r (λ error. error ≡ trouble)
     → (region : Region) (terms : List (List ℕ)) → AreTerms region terms → (lists : List TermList)
-    → ((s : State) → TellsPostings contents holds s → lists ≡ map (list_at (found_in frames.ranges s)) terms)
+    → ((s : State) → TellsPostings contents holds s
+    → HaveSameExtents region frames.ranges lists (map (list_at (found_in frames.ranges s)) terms))
     → (k : ℕ) (few : Bool) {holds_then : Option Content} {before middle now : ℕ} → holds_then ≡ holds → middle ≡ before
     → (first : Option (List ReadRange)) {between last : Option (List ReadRange)} (read : List ReadRange)
     → between ≡ option_map (λ earlier. earlier ++ read) first
     → IsCause (IsBrokenShown files holds_then region lists k (looked_through few region lists frames)) middle now between last trouble
     → IfErr r (IsQueryCause (IsDamagedOver frames (Finding k region) contents files holds) before now first last)
-cause_of_text r frames contents files holds {trouble} is region terms are lists lists_are k few same calm first read earlier cause =
+cause_of_text r frames contents files holds {trouble} is region terms are lists alike k few same calm first read earlier cause =
     err_from _ r trouble is
     (cause_of_query calm (cause_behind read earlier cause)
     (λ ranges blob bytes broken.
-    inr (bytes, text_needed frames contents files holds region terms are lists lists_are k few blob (rw same at broken))))
+    inr (bytes, text_needed frames contents files holds region terms are lists alike k few blob (rw same at broken))))
 
 -- ---- any damage of a query
 

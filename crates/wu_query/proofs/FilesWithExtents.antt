@@ -34,6 +34,7 @@ use Rattle.wu_frames.specs.declared.Frames.{Frames}
 use Rattle.wu_query.specs.Answer.{answer, found_line}
 use Rattle.wu_query.specs.Finding.{KeepsTexts, extents_of, hits_at, hits_recorded, is_at_place, lines_at, lines_recorded, looked_through}
 use Rattle.wu_query.specs.Finding.{text_at, with_units}
+use Rattle.wu_query.specs.Near.{HaveSameExtents}
 use Rattle.wu_query.specs.Records.{Records, record_at, records_of}
 use Rattle.wu_query.specs.Hits.{hits_in}
 use Rattle.wu_query.specs.Rankings.{tokens_at, unit_at}
@@ -44,6 +45,8 @@ use Rattle.wu_query.specs.Units.{found_in, list_at, range_at, units_in}
 use Rattle.wu_query.specs.View.{shown_of, view_of}
 use Rattle.wu_query.proofs.FoundLines.{IsShownAlike, all_alike, found_answer, found_texts}
 use Rattle.wu_query.proofs.FramesOfView.{are_of_view}
+use Rattle.wu_query.proofs.NearFiles.{same_lines, same_texts}
+use Rattle.wu_query.proofs.NearLists.{same_files, same_hits}
 use Rattle.wu_query.proofs.Places.{all_places, tokens_of_file}
 use Rattle.wu_query.proofs.UnitsOfFrames.{start_of, units_at, units_shifted}
 
@@ -212,18 +215,22 @@ module _ (frames : Frames) (live : Ranges) (s : State) (uid : ℕ) (is : Indexes
         (texts_left (hits_at files region lists_of_terms) units (text_at files) 0 k (files_of s.tree uid) all_covered)
 
 -- where there are few, they are those with a unit
-pub looked_few : (region : Region) (lists : List TermList) (frames : Frames) {few : Bool} {found : List RankedUnit} {view seen : List Seen}
-    → few ≡ true → found ≡ units_in region lists frames.by_address → view ≡ frames.seen → seen ≡ with_units found 0 view
+pub looked_few : (region : Region) (lists : List TermList) (frames : Frames) {few : Bool} {found : List RankedUnit} {seen : List Seen}
+    → few ≡ true → found ≡ units_in region lists frames.by_address → seen ≡ with_units found 0 frames.seen
     → seen ≡ looked_through few region lists frames
-looked_few region lists frames is found_is view_is seen_is =
-    seen_is ∙ ap₂ (λ (us : List RankedUnit) (v : List Seen). with_units us 0 v) found_is view_is
+looked_few region lists frames is found_is seen_is =
+    seen_is ∙ ap (λ (us : List RankedUnit). with_units us 0 frames.seen) found_is
     ∙ sym (ap (λ (b : Bool). cond b (with_units (units_in region lists frames.by_address) 0 frames.seen) frames.seen) is)
 
 -- ---- the answer
 
+-- by lists that give the same extents in each frame
 module _ (frames : Frames) (live : Ranges) (s : State) (uid : ℕ) (is : Indexes frames live s uid)
     (region : Region) (terms : List (List ℕ)) (are : AreTerms region terms) (files : Records) (lists : List TermList)
-    (lists_are : lists ≡ map (list_at (found_in frames.ranges s)) terms) (k : ℕ) (few : Bool) where
+    (same : HaveSameExtents region frames.ranges lists (map (list_at (found_in frames.ranges s)) terms)) (k : ℕ) (few : Bool) where
+  abbrev all_lists : List TermList
+  all_lists = map (list_at (found_in frames.ranges s)) terms
+
   pub looked_answer : (holds : Option Content) (hits number : ℕ) (shown : List Found) → KeepsTexts files holds s
       → hits ≡ length (frames_hits region lists frames.ranges)
       → number ≡ count_by (λ frame. nat_lt 0 (length (frame_hits region lists frame))) frames.ranges
@@ -231,22 +238,18 @@ module _ (frames : Frames) (live : Ranges) (s : State) (uid : ℕ) (is : Indexes
       → Find hits number shown ≡ answer (view_of s uid) (Finding k region)
   looked_answer None hits number shown keeps hits_is number_is shown_is = absurd keeps.texts
   looked_answer (Some content) hits number shown keeps hits_is number_is shown_is =
-      found_answer frames live s uid is region terms are files lists lists_are k frames.seen refl (Some content) hits number shown keeps
-      hits_is number_is
+      found_answer frames live s uid is region terms are files all_lists refl k frames.seen refl (Some content) hits number shown keeps
+      (hits_is ∙ ap length (same_hits region lists all_lists frames.ranges same))
+      (number_is ∙ same_files region lists all_lists frames.ranges same)
       (shown_is
       ∙ ap (take k)
-      (subst (λ (ls : List TermList). flat_map (lines_at content files region ls) (looked_through few region ls frames)
-      ≡ flat_map (lines_at content files region ls) frames.seen) (sym lists_are)
-      (lines_looked frames live s uid is region terms are files content keeps.records few)))
-
-  looked_shown : files ≡ records_of s.texts s.layout.files
-      → texts_shown (hits_at files region lists) (text_at files) k (looked_through few region lists frames)
-      ≡ texts_shown (hits_at files region lists) (text_at files) k frames.seen
-  looked_shown records =
-      rw lists_are (texts_looked frames live s uid is region terms are files no_content records few k)
+      (same_lines region lists all_lists frames live s uid is same files keeps.records content few
+      ∙ lines_looked frames live s uid is region terms are files content keeps.records few))
 
   pub looked_texts : files ≡ records_of s.texts s.layout.files
       → texts_shown (hits_at files region lists) (text_at files) k (looked_through few region lists frames)
       ≡ texts_read s uid (Finding k region)
   looked_texts records =
-      looked_shown records ∙ found_texts frames live s uid is region terms are files lists lists_are k frames.seen refl records
+      same_texts region lists all_lists frames live s uid is same files records few k
+      ∙ texts_looked frames live s uid is region terms are files no_content records few k
+      ∙ found_texts frames live s uid is region terms are files all_lists refl k frames.seen refl records

@@ -1,7 +1,7 @@
 -- The first lines of files, and the texts that are read for them, file by file.
 use Rattle.std.proofs.Common.{◌≡◌, ℕ, zero, suc, ◌+◌, ◌-◌, ◌<◌, cond, List, [], ◌∷◌, ◌++◌, length, take, drop, min, get_or, refl, sym, ap}
 use Rattle.std.proofs.Common.{ap₂, ◌∙◌, ◌⊎◌, inl, inr, arith, append_assoc, length-append}
-use Rattle.std.specs.Prelude.{Bool, Option, Some, None, IfSome, nat_lt, option_map}
+use Rattle.std.specs.Prelude.{Option, Some, None, IfSome, nat_lt, option_map}
 use Rattle.std.specs.List.{flat_map}
 use Rattle.std.proofs.lemmas.List.{length-take, drop_more, take-map}
 use Rattle.wu_outside.specs.Content.{Content}

@@ -3,6 +3,7 @@ pub mod ToldPostings
 pub mod FetchedLists
 pub mod PassedCauses
 pub mod FramesOfFiles
+pub mod NearLists
 pub mod UnitsOfFrames
 pub mod AskedTerms
 pub mod Places
@@ -20,7 +21,9 @@ pub mod ReadCauses
 pub mod ReadTexts
 pub mod FoundExtents
 pub mod FoundLines
+pub mod NearFiles
 pub mod FirstLines
+pub mod FilesAtPlaces
 pub mod WholeTexts
 pub mod FilesWithExtents
 pub mod DamagedTexts

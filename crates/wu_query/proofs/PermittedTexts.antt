@@ -16,6 +16,7 @@ use Rattle.wu_space.specs.Addresses.{Ranges}
 use Rattle.wu_query.specs.Asked.{blocks_for}
 use Rattle.wu_query.specs.Causes.{IsBlobOf}
 use Rattle.wu_query.specs.Finding.{AreFirstOf, KeepsTexts, hits_at, looked_through, text_at}
+use Rattle.wu_query.specs.Near.{HaveSameExtents}
 use Rattle.wu_query.specs.Permitted.{AreReadForQuery, ReadsSuch}
 use Rattle.wu_query.specs.Records.{Records}
 use Rattle.wu_query.specs.States.{State}
@@ -91,7 +92,8 @@ module _ (hits : Seen → ℕ) (text : Seen → List ReadRange) where
 -- read what it may read.
 pub shown_permitted : (frames : Frames) (live : Ranges) (s : State) (uid : ℕ) → Indexes frames live s uid
     → (region : Region) (terms : List (List ℕ)) → AreTerms region terms
-    → (files : Records) (lists : List TermList) → lists ≡ map (list_at (found_in frames.ranges s)) terms
+    → (files : Records) (lists : List TermList)
+    → HaveSameExtents region frames.ranges lists (map (list_at (found_in frames.ranges s)) terms)
     → (contents : Contents) (holds : Option Content) → TellsPostings contents holds s → KeepsTexts files holds s
     → {asked : List (List ℕ)} → asked ≡ terms → {kept : Kept} {first middle last : Option (List ReadRange)}
     → Asks (blocks_for contents frames.ranges asked) holds contents.kept kept first middle
@@ -99,7 +101,7 @@ pub shown_permitted : (frames : Frames) (live : Ranges) (s : State) (uid : ℕ) 
     → ReadsSuch (AreFirstOf (texts_shown (hits_at files region lists) (text_at files) k (looked_through few region lists frames)))
     middle last
     → ReadsSuch (AreReadForQuery s uid (Finding k region)) first last
-shown_permitted frames live s uid is region terms are files lists lists_are contents holds tells keeps asked_are {first} {middle} asks k
+shown_permitted frames live s uid is region terms are files lists same contents holds tells keeps asked_are {first} {middle} asks k
     few texts =
     let blocks = asked_blocks frames live s uid is contents holds tells (Finding k region)
     (asked_are ∙ terms_named region terms are) first middle asks in (
@@ -110,7 +112,7 @@ shown_permitted frames live s uid is region terms are files lists lists_are cont
         texts = texts.0;
         left = texts.1.0;
         front =
-            texts.1.1 ∙ looked_texts frames live s uid is region terms are files lists lists_are k few keeps.records;
+            texts.1.1 ∙ looked_texts frames live s uid is region terms are files lists same k few keeps.records;
         in_turn = refl;
       },
       texts.2 ∙ ap (option_map (λ (ranges : List ReadRange). ranges ++ texts.0)) blocks.2 ∙ reads_joined first blocks.0 texts.0,

@@ -7,7 +7,7 @@ use Rattle.wu_outside.specs.Content.{Content}
 use Rattle.wu_layout.proofs.EntryLemmas.{IfSome-all, IfSome-map2}
 use Rattle.wu_view.specs.declared.Seen.{Seen}
 use Rattle.wu_export.specs.Exports.{commands_of, directories_of, directory_entry, export_of, file_entries, files_from, first_file, paths_in}
-use Rattle.wu_export.specs.Exporting.{Begun, begun, directories_through, with_file, with_files}
+use Rattle.wu_export.specs.Exporting.{Begun, begun, with_file, with_files}
 use Rattle.wu_export.proofs.WrittenCommands.{commands-append, files_more}
 use Rattle.wu_query.specs.View.{Shown}
 

@@ -13,6 +13,11 @@ abbrev pub held_of : Content → Option FileRec → List ℕ
 held_of content None = []
 held_of content (Some file) = text_held content file
 
+-- how many bytes the text has, as recorded; none, where the file has no record
+abbrev pub size_recorded : Option FileRec → ℕ
+size_recorded None = 0
+size_recorded (Some file) = file.len
+
 -- the file of a view with its text, as its user sees it
 abbrev pub shown_at : Content → Records → Seen → Shown
 shown_at content files seen =

@@ -1,7 +1,7 @@
 -- The lines that are shown of extents, by what is recorded of files and what the store holds of their texts.
-use Rattle.std.specs.Prelude.{◌≡◌, ◌≢◌, ℕ, ◌+◌, ◌-◌, ◌<◌, ◌≤◌, ◌==◌, Bool, List, [], ◌∷◌, ◌++◌, length, map, Option, None, Some}
-use Rattle.std.specs.Prelude.{if◌then◌else◌}
-use Rattle.std.specs.List.{list_any}
+use Rattle.std.specs.Prelude.{◌≡◌, ◌≢◌, ⊤, ℕ, ◌+◌, ◌-◌, ◌<◌, ◌≤◌, ◌==◌, Bool, List, [], ◌∷◌, ◌++◌, length, map, Option, None, Some}
+use Rattle.std.specs.Prelude.{filter_map, if◌then◌else◌, slice_get}
+use Rattle.std.specs.List.{AllByRecursion, list_any}
 use Rattle.wu_base.specs.declared.addresses.Extent.{Extent}
 use Rattle.wu_base.specs.declared.addresses.TermList.{TermList}
 use Rattle.wu_base.specs.declared.limits.TheConstants.{ADDRESSES_MAX}
@@ -23,6 +23,8 @@ use Rattle.wu_solve.specs.Solving.{frame_hits}
 use Rattle.wu_view.specs.declared.Seen.{Seen}
 use Rattle.wu_query.specs.Answer.{found_line}
 use Rattle.wu_query.specs.Causes.{IsBlobOf, IsDamagedOf, WasRead}
+use Rattle.wu_query.specs.declared.looking.Places.{Places}
+use Rattle.wu_query.specs.declared.looking.Places.TheVariants.{All, Listed}
 use Rattle.wu_query.specs.Permitted.{ReadsSuch}
 use Rattle.wu_query.specs.Reads.{AreTexts, texts_read, texts_shown, whole_text}
 use Rattle.wu_query.specs.Records.{Records, record_at, records_of}
@@ -92,6 +94,24 @@ abbrev pub with_units : List RankedUnit → ℕ → List Seen → List Seen
 with_units units place [] = []
 with_units units place (file ∷ files) =
     if list_any (is_at_place place) units then file ∷ with_units units (place + 1) files else with_units units (place + 1) files
+
+-- the files at these places of a view
+abbrev pub files_listed : List ℕ → List Seen → List Seen
+files_listed places view = filter_map (slice_get view) places
+
+abbrev pub files_at : Places → List Seen → List Seen
+files_at All view = view
+files_at (Listed places) view = files_listed places view
+
+-- a file of the view is at each of them
+abbrev pub AreWithin : Places → List Seen → Type 0
+AreWithin All view = ⊤
+AreWithin (Listed places) view = AllByRecursion (λ place. place < length view) places
+
+-- a place comes after so many others, as far as the places tell without a view
+abbrev pub IsTurn : Places → ℕ → Type 0
+IsTurn All turn = ⊤
+IsTurn (Listed places) turn = turn < length places
 
 -- all files of the view, or, where there are few extents, those that have one
 abbrev pub looked_through : Bool → Region → List TermList → Frames → List Seen

@@ -15,6 +15,7 @@ pub mod Permitted
 -- ---- What only private functions and proofs need
 
 pub mod Units
+pub mod Near
 pub mod TermLines
 pub mod Finding
 pub mod Exporting

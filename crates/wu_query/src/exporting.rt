@@ -1,5 +1,5 @@
 //! The script that makes what a user may search from nothing.
-ghost use Rattle.std.specs.Prelude.{◌≡◌, ◌++◌, ℕ, map, option_map, IfOk, IfErr, IfSome, OnOk};
+ghost use Rattle.std.specs.Prelude.{◌≡◌, ◌++◌, ◌-◌, ◌^◌, ℕ, map, min, option_map, sum_by, IfOk, IfErr, IfSome, OnOk};
 ghost use Rattle.std.specs.List.{AllByRecursion, flat_map};
 ghost use Rattle.std.specs.Option.{IsSomeAnd};
 ghost use Rattle.wu_ask.specs.Questions.{Exporting as AskedExporting};
@@ -8,7 +8,7 @@ ghost use Rattle.wu_space.specs.Addresses.{Ranges};
 ghost use Rattle.wu_export.specs.Exporting.{with_files};
 ghost use Rattle.wu_query.specs.Answer.{answer};
 ghost use Rattle.wu_query.specs.Causes.{IsBrokenIn, IsDamagedOf};
-ghost use Rattle.wu_query.specs.Exporting.{held_of, shown_at};
+ghost use Rattle.wu_query.specs.Exporting.{held_of, shown_at, size_recorded};
 ghost use Rattle.wu_query.specs.Finding.{AreFirstOf, CanBeRead, IsCause, KeepsTexts};
 ghost use Rattle.wu_query.specs.Finding.{text_at, text_recorded};
 ghost use Rattle.wu_query.specs.Permitted.{AreReadForQuery, ReadsSuch};
@@ -55,7 +55,8 @@ pub fn export<D: Store>(
         (IsDamagedOf frames.now.seen files.now.entries (D.holds store.old))
         (D.faults store.old) (D.faults store.new) (D.reads store.old) (D.reads store.new)) }
 {
-    let view = frames.seen.as_slice();
+    let seen = frames.seen.to_seen(alloc)?;
+    let view = seen.as_slice();
     let begun = Exporter::new(alloc, view, size_of_texts(view, files))?;
     let written = with_texts(alloc, store, view, files, begun)?;
     Ok(Answered::Export {
@@ -63,17 +64,26 @@ pub fn export<D: Store>(
     })
 }
 
-/// How many bytes the texts of the view have, as recorded. It is a wish for memory alone, and no promise.
-fn size_of_texts(view: &[Seen], files: &BTreeMap<Ino, FileRec>) -> usize {
+/// How many bytes the texts of the view have, as recorded, or the greatest number, where they have more. It is a
+/// wish for memory alone, and no promise.
+fn size_of_texts(view: &[Seen], files: &BTreeMap<Ino, FileRec>) -> usize
+    ensures { result ≡ min (sum_by (λ seen. size_recorded (record_at files.now.entries seen.ino)) view.now) (2 ^ 64 - 1) }
+{
     let mut size = 0usize;
     for seen in view {
-        let len = match files.get(&seen.ino) {
-            Some(file) => file.len as usize,
-            None => 0,
-        };
-        size = size.saturating_add(len);
+        size = size.saturating_add(size_of_text(seen.ino, files));
     }
     size
+}
+
+/// How many bytes the text of the file of that number has, as recorded; none, where it has no record.
+fn size_of_text(ino: Ino, files: &BTreeMap<Ino, FileRec>) -> usize
+    ensures { result ≡ size_recorded (record_at files.now.entries ino) }
+{
+    match files.get(&ino) {
+        Some(file) => file.len as usize,
+        None => 0,
+    }
 }
 
 /// The script with the files of the view, each of whose texts is read, written and let go.

@@ -1,5 +1,5 @@
 //! Where an expression has its extents over a user's frames, and the lines that are shown of them.
-ghost use Rattle.std.specs.Prelude.{◌≡◌, ◌<◌, ◌≤◌, ◌+◌, ◌++◌, ℕ, List, nat_lt, min, [], map, take, length, option_map, All, if◌then◌else◌, IfOk, IfErr, IfSome, OnOk, ◌∷◌};
+ghost use Rattle.std.specs.Prelude.{◌≡◌, ◌<◌, ◌≤◌, ◌+◌, ◌++◌, ℕ, List, nat_lt, min, [], map, take, length, Some, slice_get, option_and_then, option_copied, option_map, All, if◌then◌else◌, IfOk, IfErr, IfSome, OnOk, ◌∷◌};
 ghost use Rattle.std.specs.List.{AllByRecursion, flat_map};
 ghost use Rattle.wu_ask.specs.Questions.{Finding as AskedFinding};
 ghost use Rattle.wu_base.specs.declared.limits.TheConstants.{TEXT_MAX};
@@ -8,21 +8,23 @@ ghost use Rattle.wu_outside.specs.Reading.{OnlyReads};
 ghost use Rattle.wu_snip.specs.Snippets.{IsAscending, IsWithin, snippet_of};
 ghost use Rattle.wu_solve.specs.Addresses.{AreLists};
 ghost use Rattle.wu_space.specs.Addresses.{Ranges};
+ghost use Rattle.wu_view.specs.declared.Seen.{Seen};
 ghost use Rattle.wu_query.specs.Answer.{answer, found_line};
 ghost use Rattle.wu_query.specs.Asked.{blocks_for, terms_of as named_in};
 ghost use Rattle.wu_query.specs.Causes.{IsBrokenIn, IsDamagedOver};
-ghost use Rattle.wu_query.specs.Finding.{AreFirstOf, AreTextsOf, CanBeRead, IsBelow, IsCause, IsQueryCause, KeepsTexts, counted_from, extents_of, hits_at, lines_at, lines_of_record, looked_through, text_at, IsBrokenShown};
+ghost use Rattle.wu_query.specs.Finding.{AreFirstOf, AreTextsOf, AreWithin, CanBeRead, IsBelow, IsCause, IsQueryCause, KeepsTexts, counted_from, extents_of, files_at, hits_at, lines_at, lines_of_record, looked_through, text_at, IsBrokenShown};
 ghost use Rattle.wu_query.specs.Permitted.{AreReadForQuery, ReadsSuch};
 ghost use Rattle.wu_query.specs.Reads.{HasWholeText, IsTextOf, ReadsInTurn, texts_shown, whole_text};
+ghost use Rattle.wu_query.specs.Records.{record_at};
 ghost use Rattle.wu_query.specs.States.{State};
 ghost use Rattle.wu_query.specs.Searched.{Indexes, TellsPostings};
 ghost use Rattle.wu_query.specs.Units.{CanBeSearched};
 ghost use Rattle.wu_query.specs.View.{view_of};
 
-use crate::fetching::lists_of;
-use crate::listing::first_path;
+use crate::listing::path_at;
+use crate::looking::{Places, places_looked_through};
+use crate::near::lists_near;
 use crate::reading::read_text;
-use crate::units::{files_with, units_of};
 use std::alloc::Global;
 use std::collections::BTreeMap;
 use wu_ask::{Answered, Found};
@@ -34,7 +36,7 @@ use wu_outside::Store;
 use wu_parts::Parts;
 use wu_snip::{Snip, snippets};
 use wu_solve::{count_apart, solve_apart};
-use wu_view::Seen;
+use wu_view::View;
 
 /// Up to so many extents the files that have one are sought by them. More of them are soon met file by file.
 const FEW_HITS: u64 = 4_096;
@@ -67,7 +69,7 @@ pub fn find<D: Store>(
         files.now.entries (D.holds store.old)) (D.faults store.old) (D.faults store.new) (D.reads store.old) (D.reads store.new)) }
 {
     let terms = terms_of(alloc, expr)?;
-    let lists = lists_of(alloc, store, &terms, frames, parts)?;
+    let lists = lists_near(alloc, store, expr, &terms, frames, parts)?;
     let counts = count_apart(alloc, expr, frames.ranges.as_slice(), &lists)?;
     let shown = lines_shown(
         alloc,
@@ -118,20 +120,17 @@ fn lines_shown<D: Store>(
         k (looked_through few (region_of expr.now) lists.now frames.now))
         (D.faults store.old) (D.faults store.new) (D.reads store.old) (D.reads store.new)) }
 {
-    if !few {
-        return first_lines(alloc, store, frames.seen.as_slice(), files, expr, lists, k);
-    }
-    let units = units_of(alloc, frames, expr, lists)?;
-    let seen = files_with(alloc, frames.seen.as_slice(), &units)?;
-    first_lines(alloc, store, &seen, files, expr, lists, k)
+    let places = places_looked_through(alloc, frames, expr, lists, few)?;
+    first_lines(alloc, store, &frames.seen, &places, files, expr, lists, k)
 }
 
-/// The first `k` extents with their lines, file by file in the order of the view. Hits beyond these are not
-/// looked for.
+/// The first `k` extents with their lines, file by file, of the files at these places of the view. Hits beyond
+/// these are not looked for.
 fn first_lines<D: Store>(
     alloc: Global,
     store: &mut D,
-    view: &[Seen],
+    view: &View,
+    places: &Places,
     files: &BTreeMap<Ino, FileRec>,
     expr: &Expr,
     lists: &[TermList],
@@ -139,37 +138,44 @@ fn first_lines<D: Store>(
 ) -> Result<Vec<Found>, Trouble>
     requires records { AllByRecursion CanBeRead files.now.entries }
     requires lists { AreLists lists.now }
-    ensures lines { IfOk result (λ lines. IfSome (D.holds store.old) (λ content.
-        lines.items ≡ take k (flat_map (lines_at content files.now.entries (region_of expr.now) lists.now) view.now))) }
+    requires within { AreWithin places.now view.now }
+    ensures lines { IfOk result (λ lines. IfSome (D.holds store.old) (λ content. lines.items
+        ≡ take k (flat_map (lines_at content files.now.entries (region_of expr.now) lists.now) (files_at places.now view.now)))) }
     ensures sound { OnOk result (AllByRecursion (IsTextOf (D.holds store.old) files.now.entries)
-        (texts_shown (hits_at files.now.entries (region_of expr.now) lists.now) (text_at files.now.entries) k view.now)) }
+        (texts_shown (hits_at files.now.entries (region_of expr.now) lists.now)
+        (text_at files.now.entries) k (files_at places.now view.now))) }
     ensures store { OnlyReads D.Store store.old store.new result }
     ensures reads { OnOk result (D.reads store.new ≡ option_map (λ ranges. ranges
         ++ texts_shown (hits_at files.now.entries (region_of expr.now) lists.now)
-        (text_at files.now.entries) k view.now) (D.reads store.old)) }
+        (text_at files.now.entries) k (files_at places.now view.now)) (D.reads store.old)) }
     ensures only { ReadsSuch (AreFirstOf (texts_shown (hits_at files.now.entries (region_of expr.now) lists.now)
-        (text_at files.now.entries) k view.now)) (D.reads store.old) (D.reads store.new) }
+        (text_at files.now.entries) k (files_at places.now view.now))) (D.reads store.old) (D.reads store.new) }
     ensures none { k ≡ 0 → store.new ≡ store.old }
     ensures cause { IfErr result (IsCause (IsBrokenShown files.now.entries (D.holds store.old) (region_of expr.now) lists.now
-        k view.now) (D.faults store.old) (D.faults store.new) (D.reads store.old) (D.reads store.new)) }
+        k (files_at places.now view.now))
+        (D.faults store.old) (D.faults store.new) (D.reads store.old) (D.reads store.new)) }
 {
     let mut shown = Vec::new(alloc);
-    for seen in view {
+    for turn in 0..places.len(view) {
         if shown.len() >= k {
             return Ok(shown);
         }
         let left = k - shown.len();
-        put_file(alloc, store, &mut shown, seen, files, expr, lists, left)?;
+        let place = places.nth(turn);
+        put_file(
+            alloc, store, &mut shown, view, place, files, expr, lists, left,
+        )?;
     }
     Ok(shown)
 }
 
-/// Puts the first `left` extents of a file at the end, with their lines.
+/// Puts the first `left` extents of the file at that place of the view at the end, with their lines.
 fn put_file<D: Store>(
     alloc: Global,
     store: &mut D,
     shown: &mut Vec<Found>,
-    seen: &Seen,
+    view: &View,
+    place: usize,
     files: &BTreeMap<Ino, FileRec>,
     expr: &Expr,
     lists: &[TermList],
@@ -177,31 +183,49 @@ fn put_file<D: Store>(
 ) -> Result<(), Trouble>
     requires records { AllByRecursion CanBeRead files.now.entries }
     requires lists { AreLists lists.now }
-    ensures lines { OnOk result (IfSome (D.holds store.old) (λ content.
-        shown.new.items ≡ shown.old.items ++ take left (lines_at content files.now.entries (region_of expr.now) lists.now seen.now))) }
-    ensures count { OnOk result (length shown.new.items
-        ≡ length shown.old.items + min left (hits_at files.now.entries (region_of expr.now) lists.now seen.now)) }
-    ensures sound { OnOk result (AllByRecursion (IsTextOf (D.holds store.old) files.now.entries)
-        (if nat_lt 0 (min left (hits_at files.now.entries (region_of expr.now) lists.now seen.now))
-        then text_at files.now.entries seen.now else [])) }
+    ensures lines { (seen : Seen) → slice_get view.now place ≡ Some seen
+        → OnOk result (IfSome (D.holds store.old) (λ content. shown.new.items
+        ≡ shown.old.items ++ take left (lines_at content files.now.entries (region_of expr.now) lists.now seen))) }
+    ensures count { (seen : Seen) → slice_get view.now place ≡ Some seen
+        → OnOk result (length shown.new.items
+        ≡ length shown.old.items + min left (hits_at files.now.entries (region_of expr.now) lists.now seen)) }
+    ensures sound { (seen : Seen) → slice_get view.now place ≡ Some seen
+        → OnOk result (AllByRecursion (IsTextOf (D.holds store.old) files.now.entries)
+        (if nat_lt 0 (min left (hits_at files.now.entries (region_of expr.now) lists.now seen))
+        then text_at files.now.entries seen else [])) }
     ensures store { OnlyReads D.Store store.old store.new result }
-    ensures reads { OnOk result (D.reads store.new ≡ option_map (λ ranges. ranges
-        ++ (if nat_lt 0 (min left (hits_at files.now.entries (region_of expr.now) lists.now seen.now))
-        then text_at files.now.entries seen.now else []))
+    ensures reads { (seen : Seen) → slice_get view.now place ≡ Some seen
+        → OnOk result (D.reads store.new ≡ option_map (λ ranges. ranges
+        ++ (if nat_lt 0 (min left (hits_at files.now.entries (region_of expr.now) lists.now seen))
+        then text_at files.now.entries seen else []))
         (D.reads store.old)) }
-    ensures only { ReadsSuch (AreFirstOf (if nat_lt 0 (min left (hits_at files.now.entries (region_of expr.now) lists.now seen.now))
-        then text_at files.now.entries seen.now else [])) (D.reads store.old) (D.reads store.new) }
-    ensures cause { IfErr result (IsCause (IsBrokenShown files.now.entries (D.holds store.old) (region_of expr.now) lists.now
-        left (seen.now ∷ []))
+    ensures only { (seen : Seen) → slice_get view.now place ≡ Some seen
+        → ReadsSuch (AreFirstOf (if nat_lt 0 (min left (hits_at files.now.entries (region_of expr.now) lists.now seen))
+        then text_at files.now.entries seen else [])) (D.reads store.old) (D.reads store.new) }
+    ensures cause { (seen : Seen) → slice_get view.now place ≡ Some seen
+        → IfErr result (IsCause (IsBrokenShown files.now.entries (D.holds store.old) (region_of expr.now) lists.now
+        left (seen ∷ []))
         (D.faults store.old) (D.faults store.new) (D.reads store.old) (D.reads store.new)) }
 {
-    match files.get(&seen.ino) {
+    match recorded_at(view, place, files) {
         Some(file) => {
             let extents = first_extents(alloc, expr, lists, file, left)?;
-            put_lines(alloc, store, shown, seen.paths.as_slice(), file, &extents)
+            put_lines(alloc, store, shown, view, place, file, &extents)
         }
         None => Ok(()),
     }
+}
+
+/// What is recorded of the file at that place of the view.
+fn recorded_at<'a>(
+    view: &View,
+    place: usize,
+    files: &'a BTreeMap<Ino, FileRec>,
+) -> Option<&'a FileRec>
+    ensures { option_copied result
+        ≡ option_and_then (λ seen. record_at files.now.entries seen.ino) (slice_get view.now place) }
+{
+    files.get(&view.ino_at(place)?)
 }
 
 /// The first `left` extents in the file's range, counted from its first address.
@@ -237,20 +261,23 @@ fn counted_from(alloc: Global, start: u64, extents: &[Extent]) -> Result<Vec<Ext
     Ok(counted)
 }
 
-/// Puts extents of a file at the end, with their lines. Its text is read where there is one to show.
+/// Puts extents of the file at that place of the view at the end, with their lines. Its text is read, and its path
+/// is made, where there is one to show.
 fn put_lines<D: Store>(
     alloc: Global,
     store: &mut D,
     shown: &mut Vec<Found>,
-    paths: &[Bytes],
+    view: &View,
+    place: usize,
     file: &FileRec,
     extents: &[Extent],
 ) -> Result<(), Trouble>
     requires record { CanBeRead (file.now.ino, file.now) }
     requires within { All (IsBelow file.now.range.len) extents.now }
     requires ascending { IsAscending extents.now }
-    ensures lines { OnOk result (IfSome (D.holds store.old) (λ content.
-        shown.new.items ≡ shown.old.items ++ lines_of_record content paths.now extents.now file.now)) }
+    ensures lines { (seen : Seen) → slice_get view.now place ≡ Some seen
+        → OnOk result (IfSome (D.holds store.old) (λ content.
+        shown.new.items ≡ shown.old.items ++ lines_of_record content seen.paths extents.now file.now)) }
     ensures unasked { length extents.now ≡ 0 → store.new ≡ store.old }
     ensures count { OnOk result (length shown.new.items ≡ length shown.old.items + length extents.now) }
     ensures sound { OnOk result (0 < length extents.now → 0 < file.now.blob → HasWholeText (D.holds store.old) file.now) }
@@ -266,14 +293,15 @@ fn put_lines<D: Store>(
         return Ok(());
     }
     let text = read_text(alloc, store, file)?;
-    Ok(put_snippets(alloc, shown, paths, &text, extents)?)
+    let path = path_at(alloc, view, place)?;
+    Ok(put_snippets(alloc, shown, &path, &text, extents)?)
 }
 
-/// Puts extents of a text at the end, with their lines.
+/// Puts extents of a text with that path at the end, with their lines.
 fn put_snippets(
     alloc: Global,
     shown: &mut Vec<Found>,
-    paths: &[Bytes],
+    path: &Bytes,
     text: &[u8],
     extents: &[Extent],
 ) -> Result<(), NoMemory>
@@ -281,27 +309,22 @@ fn put_snippets(
     requires within { All (IsWithin text.now) extents.now }
     requires ascending { IsAscending extents.now }
     ensures { OnOk result (shown.new.items
-        ≡ shown.old.items ++ map (found_line (record { paths = paths.now; text = text.now })) extents.now) }
+        ≡ shown.old.items ++ map (found_line (record { paths = path.now ∷ []; text = text.now })) extents.now) }
 {
     let snips = snippets(alloc, text, extents)?;
     for i in 0..extents.len() {
-        shown.push(found_line(alloc, paths, extents[i], &snips[i])?)?;
+        shown.push(found_line(path, extents[i], &snips[i])?)?;
     }
     Ok(())
 }
 
-/// An extent as it is shown, with its snippet.
-fn found_line(
-    alloc: Global,
-    paths: &[Bytes],
-    extent: Extent,
-    snip: &Snip,
-) -> Result<Found, NoMemory>
+/// An extent of a text with that path as it is shown, with its snippet.
+fn found_line(path: &Bytes, extent: Extent, snip: &Snip) -> Result<Found, NoMemory>
     ensures { IfOk result (λ line. (text : List ℕ) → snip.now ≡ snippet_of text extent
-        → line ≡ found_line (record { paths = paths.now; text = text }) extent) }
+        → line ≡ found_line (record { paths = path.now ∷ []; text = text }) extent) }
 {
     Ok(Found {
-        path: first_path(alloc, paths)?,
+        path: path.clone()?,
         start: extent.start,
         end: extent.end,
         line: snip.line,

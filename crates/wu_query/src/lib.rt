@@ -6,6 +6,8 @@ mod exporting;
 mod fetching;
 mod finding;
 mod listing;
+mod looking;
+mod near;
 mod querying;
 mod ranking;
 mod reading;

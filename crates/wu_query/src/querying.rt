@@ -116,7 +116,7 @@ fn answer<D: Store>(
             unit,
             words.as_slice(),
         ),
-        Ask::Paths => Ok(paths(alloc, frames.seen.as_slice())?),
+        Ask::Paths => Ok(paths(alloc, &frames.seen)?),
         Ask::Terms { k, prefix, top } => user_terms(
             alloc,
             store,

@@ -220,7 +220,7 @@ fn rank_words(
         → answered ≡ answer (view_of s uid) (AskedRanking k region words)) }
 {
     let Ranking { listed, top } = rank_all(alloc, units, lists, k)?;
-    let shown = lines_of(alloc, space, frames.seen.as_slice(), top.as_slice())?;
+    let shown = lines_of(alloc, space, &frames.seen, top.as_slice())?;
     Ok(Answered::Rank {
         listed,
         shown: Sequence::from(shown),

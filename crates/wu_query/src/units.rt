@@ -6,7 +6,7 @@ ghost use Rattle.wu_gcl.specs.Regions.{region_of};
 ghost use Rattle.wu_base.specs.declared.addresses.Extent.{Extent as AnExtent};
 ghost use Rattle.wu_solve.specs.Addresses.{AreLists};
 ghost use Rattle.wu_base.specs.Ranges.{AreApart};
-ghost use Rattle.wu_query.specs.Finding.{is_at_place, with_units};
+ghost use Rattle.wu_query.specs.Finding.{files_listed, is_at_place, with_units};
 ghost use Rattle.wu_query.specs.Rankings.{unit_at};
 ghost use Rattle.wu_query.specs.Units.{AreUnits, CanBeSearched, count_before, end_of, file_unit, file_units, placed};
 
@@ -16,7 +16,7 @@ use wu_frames::{Frame, Frames};
 use wu_gcl::Expr;
 use wu_rank::Unit;
 use wu_solve::solve_apart;
-use wu_view::Seen;
+use wu_view::View;
 
 /// The extents of the expression, by address, each with the place of its file in the view.
 pub(crate) fn units_of(
@@ -168,31 +168,29 @@ fn put_file(units: &mut Vec<Unit>, frame: &Frame) -> Result<(), NoMemory>
     Ok(())
 }
 
-/// The files of the view that have one of the units, in their order.
-pub(crate) fn files_with(
+/// The places of the files of the view that have one of the units, ascending.
+pub(crate) fn places_with(
     alloc: Global,
-    view: &[Seen],
+    view: &View,
     units: &[Unit],
-) -> Result<Vec<Seen>, NoMemory>
-    ensures { IfOk result (λ files. files.items ≡ with_units units.now 0 view.now) }
+) -> Result<Vec<usize>, NoMemory>
+    ensures files { IfOk result (λ places. files_listed places.items view.now ≡ with_units units.now 0 view.now) }
+    ensures within { IfOk result (λ places. AllByRecursion (λ place. place < length view.now) places.items) }
 {
     let met = places_met(alloc, view.len(), units)?;
-    let mut files = Vec::new(alloc);
-    for i in 0..view.len() {
-        put_file_met(&mut files, &view[i], met[i])?;
+    let mut places = Vec::new(alloc);
+    for place in 0..view.len() {
+        put_place_met(&mut places, place, met[place])?;
     }
-    Ok(files)
+    Ok(places)
 }
 
-/// Puts the file at the end, if it is met.
-fn put_file_met(files: &mut Vec<Seen>, file: &Seen, met: bool) -> Result<(), NoMemory>
-    ensures { OnOk result (files.new.items ≡ files.old.items ++ (if met then file.now ∷ [] else [])) }
+/// Puts the place at the end, if it is met.
+fn put_place_met(places: &mut Vec<usize>, place: usize, met: bool) -> Result<(), NoMemory>
+    ensures { OnOk result (places.new.items ≡ places.old.items ++ (if met then place ∷ [] else [])) }
 {
     if met {
-        files.push(Seen {
-            paths: file.paths.clone()?,
-            ino: file.ino,
-        })?;
+        places.push(place)?;
     }
     Ok(())
 }

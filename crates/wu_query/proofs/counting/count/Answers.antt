@@ -1,4 +1,4 @@
-use Rattle.std.proofs.Common.{◌∙◌, ap, map, rules}
+use Rattle.std.proofs.Common.{◌∙◌, ap, length, map, refl, rules}
 use Rattle.wu_gcl.specs.Regions.{region_of}
 use Rattle.wu_query.specs.Asked.{terms_of}
 use Rattle.wu_query.specs.Units.{found_in, list_at}
@@ -6,6 +6,7 @@ use Rattle.wu_query.proofs.AnswerLemmas.{if_ok}
 use Rattle.wu_query.proofs.AskedTerms.{terms_named}
 use Rattle.wu_query.proofs.CountLemmas.{counted}
 use Rattle.wu_query.proofs.FramesOfFiles.{are_lists}
+use Rattle.wu_query.proofs.NearLists.{same_files, same_hits, same_of}
 use Rattle.wu_query.proofs.PassedCauses.{cause_at_last, cause_at_once, cause_passed}
 use Rattle.wu_query.proofs.UnitLemmas.{searched_few}
 use Rattle.wu_query.proofs.counting.count.Goals as goal
@@ -38,11 +39,18 @@ count_apart-requires-clause-few g c =
 
 pub returns-clause-answer : goal.returns-clause-answer
 returns-clause-answer g c = λ live s uid is tells.
-    counted c.args.frames.now live s uid is (region_of c.args.expr.now) c.in_ok-terms.terms.items c.in_ok-terms.ensures
-    c.in_ok-lists.lists.items c.in_ok-counts.counts.hits c.in_ok-counts.counts.files
-    (c.in_ok-lists.ensures.lists s tells ∙ ap (map (list_at (found_in c.args.frames.now.ranges s))) c.deref.ensures.value)
-    (rw (c.deref-2.ensures.value, c.as_slice.ensures) at c.in_ok-counts.ensures.hits)
-    (rw (c.deref-2.ensures.value, c.as_slice.ensures) at c.in_ok-counts.ensures.files)
+    let frames = c.args.frames.now in
+    let region = region_of c.args.expr.now in
+    let found = found_in frames.ranges s in
+    let lists = c.in_ok-lists.lists.items in
+    let all = map (list_at found) c.in_ok-terms.terms.items in
+    let same = same_of region frames.ranges found {lists = lists} refl c.deref.ensures.value (c.in_ok-lists.ensures.lists s tells) in
+    counted frames live s uid is region c.in_ok-terms.terms.items c.in_ok-terms.ensures all c.in_ok-counts.counts.hits
+    c.in_ok-counts.counts.files refl
+    ((rw (c.deref-2.ensures.value, c.as_slice.ensures) at c.in_ok-counts.ensures.hits)
+    ∙ ap length (same_hits region lists all frames.ranges same))
+    ((rw (c.deref-2.ensures.value, c.as_slice.ensures) at c.in_ok-counts.ensures.files)
+    ∙ same_files region lists all frames.ranges same)
 
 pub returns-clause-blocks : goal.returns-clause-blocks
 returns-clause-blocks g c =

@@ -1,14 +1,15 @@
-use Rattle.std.proofs.Common.{◌∙◌, ap, map, refl}
+use Rattle.std.proofs.Common.{◌∙◌, refl}
 use Rattle.std.specs.Prelude.{nat_le}
 use Rattle.wu_ask.specs.Questions.{Finding}
 use Rattle.wu_gcl.specs.Regions.{region_of}
 use Rattle.wu_query.specs.Finding.{hits_at, looked_through, text_at}
 use Rattle.wu_query.specs.Reads.{texts_shown}
-use Rattle.wu_query.specs.Units.{found_in, list_at}
+use Rattle.wu_query.specs.Units.{found_in}
 use Rattle.wu_query.proofs.AskedTerms.{terms_named}
 use Rattle.wu_query.proofs.FilesWithExtents.{looked_answer, looked_texts}
 use Rattle.wu_query.proofs.FoundLines.{are_texts}
 use Rattle.wu_query.proofs.FramesOfFiles.{are_lists}
+use Rattle.wu_query.proofs.NearLists.{same_of}
 use Rattle.wu_query.proofs.DamagedTexts.{cause_of_text}
 use Rattle.wu_query.proofs.QueryReads.{cause_of_fetch, cause_of_memory}
 use Rattle.wu_query.proofs.PermittedBlocks.{asked_permitted, failed_permitted}
@@ -39,12 +40,14 @@ pub returns-clause-answer : goal.returns-clause-answer
 returns-clause-answer g c = λ live s uid is tells keeps.
     looked_answer c.args.frames.now live s uid is (region_of c.args.expr.now) c.in_ok-terms.terms.items c.in_ok-terms.ensures
     c.args.files.now.entries c.in_ok-lists.lists.items
-    (c.in_ok-lists.ensures.lists s tells ∙ ap (map (list_at (found_in c.args.frames.now.ranges s))) c.deref.ensures.value)
+    (same_of (region_of c.args.expr.now) c.args.frames.now.ranges (found_in c.args.frames.now.ranges s)
+    {lists = c.in_ok-lists.lists.items} refl c.deref.ensures.value
+    (c.in_ok-lists.ensures.lists s tells))
     c.args.k (nat_le c.in_ok-counts.counts.hits 4096) (g.D.Store.holds c.args.store.now) c.in_ok-counts.counts.hits
     c.in_ok-counts.counts.files _ keeps
     (rw (c.deref-2.ensures.value, c.as_slice.ensures) at c.in_ok-counts.ensures.hits)
     (rw (c.deref-2.ensures.value, c.as_slice.ensures) at c.in_ok-counts.ensures.files)
-    (rw (c.deref-3.ensures.value, c.lists_of.ensures.store.holds, ← c.from.ensures) at c.in_ok-shown.ensures.lines)
+    (rw (c.deref-3.ensures.value, c.lists_near.ensures.store.holds, ← c.from.ensures) at c.in_ok-shown.ensures.lines)
 
 pub returns-clause-reads : goal.returns-clause-reads
 returns-clause-reads g c =
@@ -55,16 +58,17 @@ returns-clause-reads g c =
     let few = nat_le c.in_ok-counts.counts.hits 4096 in
     let looked = looked_through few region lists c.args.frames.now in
     record {
-      between = g.D.Store.reads c.lists_of.new.store;
+      between = g.D.Store.reads c.lists_near.new.store;
       asks = rw (c.deref.ensures.value ∙ terms_named region terms c.in_ok-terms.ensures) at c.in_ok-lists.ensures.blocks;
       texts = texts_shown (hits_at files region lists) (text_at files) c.args.k looked;
       are = record {
         are = are_texts (g.D.Store.holds c.args.store.now) files region lists c.args.k looked
-            (rw (c.deref-3.ensures.value, c.lists_of.ensures.store.holds) at c.in_ok-shown.ensures.sound);
+            (rw (c.deref-3.ensures.value, c.lists_near.ensures.store.holds) at c.in_ok-shown.ensures.sound);
         shown = λ live s uid is tells keeps.
             looked_texts c.args.frames.now live s uid is region terms c.in_ok-terms.ensures files lists
-            (c.in_ok-lists.ensures.lists s tells ∙ ap (map (list_at (found_in c.args.frames.now.ranges s))) c.deref.ensures.value)
-            c.args.k few keeps.records;
+            (same_of region c.args.frames.now.ranges (found_in c.args.frames.now.ranges s)
+            {lists = c.in_ok-lists.lists.items} refl c.deref.ensures.value
+            (c.in_ok-lists.ensures.lists s tells)) c.args.k few keeps.records;
       };
       read = rw c.deref-3.ensures.value at c.in_ok-shown.ensures.reads;
     }
@@ -88,9 +92,10 @@ returns-in_err-shown-clause-cause g c =
     cause_of_text c.from_residual-in_err-shown.result c.args.frames.now c.args.parts.now c.args.files.now.entries
     (g.D.Store.holds c.args.store.now) c.from_residual-in_err-shown.ensures.1 (region_of c.args.expr.now) c.in_ok-terms.terms.items
     c.in_ok-terms.ensures c.deref-3.result.now
-    (λ s tells. c.deref-3.ensures.value ∙ c.in_ok-lists.ensures.lists s tells
-    ∙ ap (map (list_at (found_in c.args.frames.now.ranges s))) c.deref.ensures.value)
-    c.args.k (nat_le c.in_ok-counts.counts.hits 4096) c.lists_of.ensures.store.holds c.in_ok-lists.ensures.store.calm _ _
+    (λ s tells.
+    same_of (region_of c.args.expr.now) c.args.frames.now.ranges (found_in c.args.frames.now.ranges s) c.deref-3.ensures.value
+    c.deref.ensures.value (c.in_ok-lists.ensures.lists s tells))
+    c.args.k (nat_le c.in_ok-counts.counts.hits 4096) c.lists_near.ensures.store.holds c.in_ok-lists.ensures.store.calm _ _
     c.in_ok-lists.ensures.blocks.read c.in_err-shown.ensures.cause
 
 pub returns-in_err-lists-clause-permitted : goal.returns-in_err-lists-clause-permitted
@@ -98,21 +103,21 @@ returns-in_err-lists-clause-permitted g c = λ live s uid is tells keeps.
     failed_permitted c.args.frames.now live s uid is c.args.parts.now (g.D.Store.holds c.args.store.now) tells
     (Finding c.args.k (region_of c.args.expr.now))
     (c.deref.ensures.value ∙ terms_named (region_of c.args.expr.now) c.in_ok-terms.terms.items c.in_ok-terms.ensures)
-    (g.D.Store.reads c.args.store.now) (g.D.Store.reads c.lists_of.new.store) c.in_err-lists.ensures.cause
+    (g.D.Store.reads c.args.store.now) (g.D.Store.reads c.lists_near.new.store) c.in_err-lists.ensures.cause
 
 pub returns-in_err-counts-clause-permitted : goal.returns-in_err-counts-clause-permitted
 returns-in_err-counts-clause-permitted g c = λ live s uid is tells keeps.
     asked_permitted c.args.frames.now live s uid is c.args.parts.now (g.D.Store.holds c.args.store.now) tells
     (Finding c.args.k (region_of c.args.expr.now))
     (c.deref.ensures.value ∙ terms_named (region_of c.args.expr.now) c.in_ok-terms.terms.items c.in_ok-terms.ensures)
-    (g.D.Store.reads c.args.store.now) (g.D.Store.reads c.lists_of.new.store) c.in_ok-lists.ensures.blocks
+    (g.D.Store.reads c.args.store.now) (g.D.Store.reads c.lists_near.new.store) c.in_ok-lists.ensures.blocks
 
 pub returns-in_err-shown-clause-permitted : goal.returns-in_err-shown-clause-permitted
 returns-in_err-shown-clause-permitted g c = λ live s uid is tells keeps.
     shown_permitted c.args.frames.now live s uid is (region_of c.args.expr.now) c.in_ok-terms.terms.items c.in_ok-terms.ensures
     c.args.files.now.entries c.deref-3.result.now
-    (c.deref-3.ensures.value ∙ c.in_ok-lists.ensures.lists s tells
-    ∙ ap (map (list_at (found_in c.args.frames.now.ranges s))) c.deref.ensures.value)
+    (same_of (region_of c.args.expr.now) c.args.frames.now.ranges (found_in c.args.frames.now.ranges s) c.deref-3.ensures.value
+    c.deref.ensures.value (c.in_ok-lists.ensures.lists s tells))
     c.args.parts.now (g.D.Store.holds c.args.store.now) tells keeps c.deref.ensures.value c.in_ok-lists.ensures.blocks c.args.k
     (nat_le c.in_ok-counts.counts.hits 4096) c.in_err-shown.ensures.only
 
@@ -120,7 +125,7 @@ pub returns-clause-permitted : goal.returns-clause-permitted
 returns-clause-permitted g c = λ live s uid is tells keeps.
     shown_permitted c.args.frames.now live s uid is (region_of c.args.expr.now) c.in_ok-terms.terms.items c.in_ok-terms.ensures
     c.args.files.now.entries c.deref-3.result.now
-    (c.deref-3.ensures.value ∙ c.in_ok-lists.ensures.lists s tells
-    ∙ ap (map (list_at (found_in c.args.frames.now.ranges s))) c.deref.ensures.value)
+    (same_of (region_of c.args.expr.now) c.args.frames.now.ranges (found_in c.args.frames.now.ranges s) c.deref-3.ensures.value
+    c.deref.ensures.value (c.in_ok-lists.ensures.lists s tells))
     c.args.parts.now (g.D.Store.holds c.args.store.now) tells keeps c.deref.ensures.value c.in_ok-lists.ensures.blocks c.args.k
     (nat_le c.in_ok-counts.counts.hits 4096) c.in_ok-shown.ensures.only

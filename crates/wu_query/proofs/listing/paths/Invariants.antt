@@ -3,5 +3,5 @@ use Rattle.std.specs.List.{flat_map}
 use Rattle.wu_query.proofs.listing.paths.Given as goal
 
 -- the paths of the files so far were put
-abbrev pub invariant-loop-seen : goal.invariant-loop-seen
-invariant-loop-seen l = l.paths.items ≡ flat_map (λ seen. seen.paths) (take l.seen-index l.view)
+abbrev pub invariant-loop-place : goal.invariant-loop-place
+invariant-loop-place l = l.paths.items ≡ flat_map (λ seen. seen.paths) (take l.place l.view)

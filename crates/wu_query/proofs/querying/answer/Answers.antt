@@ -1,4 +1,4 @@
-use Rattle.std.proofs.Common.{◌∙◌, [], refl}
+use Rattle.std.proofs.Common.{[], refl}
 use Rattle.wu_ask.specs.Questions.{Counting, ListingPaths, ListingTerms, Ranking, Weighing}
 use Rattle.wu_gcl.specs.Regions.{region_of}
 use Rattle.wu_lists.proofs.Asking.{asks-none}
@@ -74,7 +74,7 @@ returns-in-Rank-clause-cause g c =
 pub returns-in_ok-paths-in-Paths-clause-answer : goal.returns-in_ok-paths-in-Paths-clause-answer
 returns-in_ok-paths-in-Paths-clause-answer g c = λ s uid is tells texts.
     rw c.in-Paths.is
-    (paths_listed s uid c.as_slice-in-Paths.result.now c.in_ok-paths-in-Paths.field-0 (c.as_slice-in-Paths.ensures ∙ is.hers.view)
+    (paths_listed s uid c.args.frames.now.seen c.in_ok-paths-in-Paths.field-0 is.hers.view
     c.in_ok-paths-in-Paths.ensures)
 
 pub returns-in_ok-paths-in-Paths-clause-reads : goal.returns-in_ok-paths-in-Paths-clause-reads

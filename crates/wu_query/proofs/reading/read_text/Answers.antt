@@ -22,4 +22,6 @@ returns-in_err-check_tokens-clause-cause g c =
     err_from _ c.from_residual-in_err-check_tokens.result c.in_err-check_tokens.field-0.0 c.from_residual-in_err-check_tokens.ensures.1
     (tokens_cause (g.D.Store.holds c.args.store.now) c.args.file.now c.in_ok-text.text.items (g.D.Store.faults c.args.store.now)
     (g.D.Store.faults c.read_blob.new.store) c.in_err-check_tokens.field-0.0 some
-    (has_bytes c.args.file.now c.requires some) c.in_ok-text.ensures.text (rw c.deref.ensures.value at c.in_err-check_tokens.ensures.damaged) c.in_ok-text.ensures.store.calm c.in_ok-text.ensures.reads)
+    (has_bytes c.args.file.now c.requires some) c.in_ok-text.ensures.text
+    (rw c.deref.ensures.value at c.in_err-check_tokens.ensures.damaged) c.in_ok-text.ensures.store.calm
+    c.in_ok-text.ensures.reads)
