@@ -160,29 +160,6 @@ module _ (content : Content) where
 
 -- ---- what was saved
 
--- an image, by the root and the checkpoint that were read
-record IsSpelled (content : Content) (root : Root) (checkpoint : Checkpoint) (tree : FileSystem) (texts : Texts) (layout : Layout)
-    : Type 0 where
-  pub tree_saved : checkpoint.tree ≡ tree
-  pub next : checkpoint.next_address ≡ layout.next
-  pub blob : checkpoint.next_blob ≡ layout.blob
-  pub check : root.checkpoint ≡ layout.check
-  pub files : AllZip (HoldsText content texts) layout.files checkpoint.files
-  pub job : layout.job ≡ None
-  pub index : HasParts content root checkpoint layout ⊎ IsRenewed root checkpoint texts layout
-
-as_spelled : (content : Content) (code : List ℕ) (tree : FileSystem) (texts : Texts) (layout : Layout)
-    → (saved : HasSaved content code tree texts layout) → IsSpelled content saved.root saved.checkpoint tree texts layout
-as_spelled content code tree texts layout saved = record {
-  tree_saved = saved.tree_saved;
-  next = saved.next;
-  blob = saved.blob;
-  check = saved.check;
-  files = saved.files;
-  job = saved.job;
-  index = saved.index;
-}
-
 layout_is : (a b : Layout) → a.next ≡ b.next → a.blob ≡ b.blob → a.check ≡ b.check → a.flushes ≡ b.flushes → a.files ≡ b.files
     → a.memory ≡ b.memory → a.parts ≡ b.parts → a.stale ≡ b.stale → a.job ≡ b.job → a ≡ b
 layout_is a b next blob check flushes files memory parts stale job =
@@ -195,85 +172,38 @@ layout_is a b next blob check flushes files memory parts stale job =
     ∙ (ap (λ x. lists b.files b.memory x a.stale a.job) parts ∙ (ap (λ x. lists b.files b.memory b.parts x a.job) stale
     ∙ ap (λ x. lists b.files b.memory b.parts b.stale x) job)))))))
 
-module _ (content : Content) (root : Root) (checkpoint : Checkpoint) (rules : IsCheckpoint checkpoint) where
-  module _ (tree : FileSystem) (texts : Texts) (layout : Layout) (is : IsSpelled content root checkpoint tree texts layout)
-      (one : AreOfOneState tree texts layout) where
-    keys_are : keys_of texts ≡ file_numbers checkpoint.tree.nodes
-    keys_are =
-        same_sorted nat_cmp_total exact_unsigned (keys_of texts) (file_numbers checkpoint.tree.nodes) one.ascend
-        (file_numbers_ascend checkpoint.tree.nodes rules.tree.nodes_ascend)
-        (λ q h. number_there q checkpoint.tree.nodes (sym (of_files q) ∙ key_found q texts h))
-        (λ q h. found_key q texts (of_files q ∙ there_number q checkpoint.tree.nodes rules.tree.nodes_ascend h))
-      where
-        of_files : (q : ℕ) → is_some (lookup (is_at (nat_cmp q)) texts) ≡ is_file checkpoint.tree q
-        of_files q = one.of_files q ∙ ap (λ (t : FileSystem). is_file t q) (sym is.tree_saved)
+module _ (content : Content) (code : List ℕ) (tree : FileSystem) (texts : Texts) (layout : Layout)
+    (saved : HasSaved content code tree texts layout) (one : AreOfOneState tree texts layout) where
+  abbrev checkpoint : Checkpoint
+  checkpoint = saved.checkpoint
 
-    texts_are : texts ≡ held_texts content checkpoint.files
-    texts_are =
-        same_by_keys content (text_of texts) texts (held_texts content checkpoint.files)
-        (keys_are ∙ sym (keys_mapped (λ (file : FileRec). (file.ino, text_held content file)) checkpoint.files ∙ rules.files))
-        (found_are content texts texts (all_found texts one.ascend))
-        (held_are content checkpoint.next_address texts layout.files checkpoint.files is.files rules.layout.texts)
+  rules : IsCheckpoint checkpoint
+  rules = saved.spelled.spelled.holds
 
-    stored_ascends : (middle : ℕ) × Ascend 0 middle (stored_in layout.parts)
-    stored_ascends =
-        let split =
-        Ascend-split 0 layout.next (stored_in layout.parts) layout.memory
-        (subst (λ (ps : List Posting). Ascend 0 layout.next ps) (postings_split layout.parts layout.memory)
-        one.indexed.addresses.ascend) in
-        (split.0, split.1.0)
+  keys_are : keys_of texts ≡ file_numbers checkpoint.tree.nodes
+  keys_are =
+      same_sorted nat_cmp_total exact_unsigned (keys_of texts) (file_numbers checkpoint.tree.nodes) one.ascend
+      (file_numbers_ascend checkpoint.tree.nodes rules.tree.nodes_ascend)
+      (λ q h. number_there q checkpoint.tree.nodes (sym (of_files q) ∙ key_found q texts h))
+      (λ q h. found_key q texts (of_files q ∙ there_number q checkpoint.tree.nodes rules.tree.nodes_ascend h))
+    where
+      of_files : (q : ℕ) → is_some (lookup (is_at (nat_cmp q)) texts) ≡ is_file checkpoint.tree q
+      of_files q = one.of_files q ∙ ap (λ (t : FileSystem). is_file t q) (sym saved.tree_saved)
 
-  module _ (tree other_tree : FileSystem) (texts other_texts : Texts) (layout other_layout : Layout)
-      (is : IsSpelled content root checkpoint tree texts layout)
-      (its : IsSpelled content root checkpoint other_tree other_texts other_layout)
-      (one : AreOfOneState tree texts layout) (other : AreOfOneState other_tree other_texts other_layout) where
-    same_tree : tree ≡ other_tree
-    same_tree = sym is.tree_saved ∙ its.tree_saved
+  texts_are : texts ≡ held_texts content checkpoint.files
+  texts_are =
+      same_by_keys content (text_of texts) texts (held_texts content checkpoint.files)
+      (keys_are ∙ sym (keys_mapped (λ (file : FileRec). (file.ino, text_held content file)) checkpoint.files ∙ rules.files))
+      (found_are content texts texts (all_found texts one.ascend))
+      (held_are content checkpoint.next_address texts layout.files checkpoint.files saved.files rules.layout.texts)
 
-    same_texts : texts ≡ other_texts
-    same_texts = texts_are tree texts layout is one ∙ sym (texts_are other_tree other_texts other_layout its other)
-
-    same_layout_if : layout.flushes ≡ other_layout.flushes → layout.memory ≡ other_layout.memory → layout.parts ≡ other_layout.parts
-        → layout.stale ≡ other_layout.stale → layout ≡ other_layout
-    same_layout_if flushes memory parts stale =
-        layout_is layout other_layout (sym is.next ∙ its.next) (sym is.blob ∙ its.blob) (sym is.check ∙ its.check) flushes
-        (entries_are content texts layout.files checkpoint.files is.files
-        ∙ sym (entries_are content other_texts other_layout.files checkpoint.files its.files))
-        memory parts stale (is.job ∙ sym its.job)
-
-    second : HasParts content root checkpoint layout → HasParts content root checkpoint other_layout → layout ≡ other_layout
-    second h g =
-        let mine = stored_ascends tree texts layout is one in
-        let others = stored_ascends other_tree other_texts other_layout its other in
-        same_layout_if (sym h.flushes ∙ g.flushes) (h.memory ∙ sym g.memory)
-        (same_parts content 0 mine.0 0 others.0 layout.parts other_layout.parts checkpoint.parts mine.1 others.1 h.parts g.parts)
-        (h.stale ∙ sym g.stale)
-
-    first : IsRenewed root checkpoint texts layout → IsRenewed root checkpoint other_texts other_layout → layout ≡ other_layout
-    first h g =
-        let order : h.order ≡ g.order =
-        same_order checkpoint.files h.order g.order (texts_filled checkpoint.next_address checkpoint.files rules.layout.texts)
-        rules.layout.apart h.by_address g.by_address in
-        let memory : layout.memory ≡ other_layout.memory =
-        h.memory
-        ∙ (ap (λ (files : List FileRec). postings_from (λ file. text_of texts file.ino) files) order
-        ∙ (ap (λ (ts : Texts). postings_from (λ file. text_of ts file.ino) g.order) same_texts ∙ sym g.memory)) in
-        same_layout_if (h.flushes ∙ sym g.flushes) memory (h.parts ∙ sym g.parts) (h.stale ∙ sym g.stale)
-
-    same_layout : layout ≡ other_layout
-    same_layout =
-        ⊎_elim
-        (λ (h : HasParts content root checkpoint layout).
-        ⊎_elim
-        (λ (g : HasParts content root checkpoint other_layout). second h g)
-        (λ (g : IsRenewed root checkpoint other_texts other_layout). absurd (omega (arith, h.version, g.version)))
-        its.index)
-        (λ (h : IsRenewed root checkpoint texts layout).
-        ⊎_elim
-        (λ (g : HasParts content root checkpoint other_layout). absurd (omega (arith, h.version, g.version)))
-        (λ (g : IsRenewed root checkpoint other_texts other_layout). first h g)
-        its.index)
-        is.index
+  stored_ascends : (middle : ℕ) × Ascend 0 middle (stored_in layout.parts)
+  stored_ascends =
+      let split =
+      Ascend-split 0 layout.next (stored_in layout.parts) layout.memory
+      (subst (λ (ps : List Posting). Ascend 0 layout.next ps) (postings_split layout.parts layout.memory)
+      one.indexed.addresses.ascend) in
+      (split.0, split.1.0)
 
 -- ---- images
 
@@ -282,26 +212,92 @@ module _ (content : Content) (tree other_tree : FileSystem) (texts other_texts :
   abbrev AreTheSame : Type 0
   AreTheSame = (tree ≡ other_tree) × (texts ≡ other_texts) × (layout ≡ other_layout)
 
-  saved_alike : (code : List ℕ) → HasSaved content code tree texts layout → HasSaved content code other_tree other_texts other_layout
-      → AreTheSame
-  saved_alike code saved others =
-      let root : others.root ≡ saved.root = same_root others.root saved.root code others.root_spelled saved.root_spelled in
-      let both : Some others.bytes ≡ Some saved.bytes =
-      sym others.held ∙ (ap (λ (r : Root). content.blobs r.checkpoint) root ∙ saved.held) in
-      let bytes : others.bytes ≡ saved.bytes = cc in
-      let checkpoint : others.checkpoint ≡ saved.checkpoint =
-      same_checkpoint others.checkpoint saved.checkpoint saved.bytes
-      (subst (SpellsCheckpoint others.checkpoint) bytes others.spelled.spelled) saved.spelled.spelled in
-      let rules : IsCheckpoint saved.checkpoint = saved.spelled.spelled.holds in
-      let is : IsSpelled content saved.root saved.checkpoint tree texts layout = as_spelled content code tree texts layout saved in
-      let its : IsSpelled content saved.root saved.checkpoint other_tree other_texts other_layout =
-      subst (λ (c : Checkpoint). IsSpelled content saved.root c other_tree other_texts other_layout) checkpoint
-      (subst (λ (r : Root). IsSpelled content r others.checkpoint other_tree other_texts other_layout) root
-      (as_spelled content code other_tree other_texts other_layout others)) in (
-        same_tree content saved.root saved.checkpoint rules tree other_tree texts other_texts layout other_layout is its one other,
-        same_texts content saved.root saved.checkpoint rules tree other_tree texts other_texts layout other_layout is its one other,
-        same_layout content saved.root saved.checkpoint rules tree other_tree texts other_texts layout other_layout is its one other,
-      )
+  module _ (code : List ℕ) (saved : HasSaved content code tree texts layout)
+      (others : HasSaved content code other_tree other_texts other_layout) where
+    roots_are : others.root ≡ saved.root
+    roots_are = same_root others.root saved.root code others.root_spelled saved.root_spelled
+
+    checkpoints_are : others.checkpoint ≡ saved.checkpoint
+    checkpoints_are =
+        let both : Some others.bytes ≡ Some saved.bytes =
+        sym others.held ∙ (ap (λ (r : Root). content.blobs r.checkpoint) roots_are ∙ saved.held) in
+        let bytes : others.bytes ≡ saved.bytes = cc in
+        same_checkpoint others.checkpoint saved.checkpoint saved.bytes
+        (subst (SpellsCheckpoint others.checkpoint) bytes others.spelled.spelled) saved.spelled.spelled
+
+    read_alike : {X : Type 0} (value : Checkpoint → X) → value saved.checkpoint ≡ value others.checkpoint
+    read_alike value = ap value (sym checkpoints_are)
+
+    same_tree : tree ≡ other_tree
+    same_tree = sym saved.tree_saved ∙ read_alike (λ c. c.tree) ∙ others.tree_saved
+
+    same_texts : texts ≡ other_texts
+    same_texts =
+        texts_are content code tree texts layout saved one ∙ read_alike (λ c. held_texts content c.files)
+        ∙ sym (texts_are content code other_tree other_texts other_layout others other)
+
+    same_entries : layout.files ≡ other_layout.files
+    same_entries =
+        entries_are content texts layout.files saved.checkpoint.files saved.files ∙ read_alike (λ c. entries_of c.files)
+        ∙ sym (entries_are content other_texts other_layout.files others.checkpoint.files others.files)
+
+    same_layout_if : layout.flushes ≡ other_layout.flushes → layout.memory ≡ other_layout.memory → layout.parts ≡ other_layout.parts
+        → layout.stale ≡ other_layout.stale → layout ≡ other_layout
+    same_layout_if flushes memory parts stale =
+        layout_is layout other_layout (sym saved.next ∙ read_alike (λ c. c.next_address) ∙ others.next)
+        (sym saved.blob ∙ read_alike (λ c. c.next_blob) ∙ others.blob)
+        (sym saved.check ∙ ap (λ (r : Root). r.checkpoint) (sym roots_are) ∙ others.check) flushes same_entries memory parts stale
+        (saved.job ∙ sym others.job)
+
+    second : HasParts content saved.root saved.checkpoint layout → HasParts content saved.root saved.checkpoint other_layout
+        → layout ≡ other_layout
+    second h g =
+        let mine = stored_ascends content code tree texts layout saved one in
+        let its = stored_ascends content code other_tree other_texts other_layout others other in
+        same_layout_if (sym h.flushes ∙ g.flushes) (h.memory ∙ sym g.memory)
+        (same_parts content 0 mine.0 0 its.0 layout.parts other_layout.parts saved.checkpoint.parts mine.1 its.1 h.parts g.parts)
+        (h.stale ∙ sym g.stale)
+
+    first : IsRenewed saved.root saved.checkpoint texts layout → IsRenewed saved.root saved.checkpoint other_texts other_layout
+        → layout ≡ other_layout
+    first h g =
+        let files = saved.checkpoint.files in
+        let rules = saved.spelled.spelled.holds in
+        let order : h.order ≡ g.order =
+        same_order files h.order g.order (texts_filled saved.checkpoint.next_address files rules.layout.texts) rules.layout.apart
+        h.by_address g.by_address in
+        let memory : layout.memory ≡ other_layout.memory =
+        h.memory
+        ∙ (ap (λ (sorted : List FileRec). postings_from (λ file. text_of texts file.ino) sorted) order
+        ∙ (ap (λ (ts : Texts). postings_from (λ file. text_of ts file.ino) g.order) same_texts ∙ sym g.memory)) in
+        same_layout_if (h.flushes ∙ sym g.flushes) memory (h.parts ∙ sym g.parts) (h.stale ∙ sym g.stale)
+
+    other_index : HasParts content saved.root saved.checkpoint other_layout ⊎ IsRenewed saved.root saved.checkpoint other_texts other_layout
+    other_index =
+        subst
+        (λ (c : Checkpoint). HasParts content saved.root c other_layout ⊎ IsRenewed saved.root c other_texts other_layout)
+        checkpoints_are
+        (subst
+        (λ (r : Root). HasParts content r others.checkpoint other_layout ⊎ IsRenewed r others.checkpoint other_texts other_layout)
+        roots_are others.index)
+
+    same_layout : layout ≡ other_layout
+    same_layout =
+        ⊎_elim
+        (λ (h : HasParts content saved.root saved.checkpoint layout).
+        ⊎_elim
+        (λ (g : HasParts content saved.root saved.checkpoint other_layout). second h g)
+        (λ (g : IsRenewed saved.root saved.checkpoint other_texts other_layout). absurd (omega (arith, h.version, g.version)))
+        other_index)
+        (λ (h : IsRenewed saved.root saved.checkpoint texts layout).
+        ⊎_elim
+        (λ (g : HasParts content saved.root saved.checkpoint other_layout). absurd (omega (arith, h.version, g.version)))
+        (λ (g : IsRenewed saved.root saved.checkpoint other_texts other_layout). first h g)
+        other_index)
+        saved.index
+
+    saved_alike : AreTheSame
+    saved_alike = (same_tree, same_texts, same_layout)
 
   first_alike : IsFirst tree texts layout → IsFirst other_tree other_texts other_layout → AreTheSame
   first_alike is its =

@@ -1,7 +1,7 @@
 -- A sound store is an image of a tree, of texts and of a layout of one state.
 use Rattle.std.proofs.Common.{◌≡◌, ◌≢◌, ℕ, ◌+◌, ◌<◌, ◌≤◌, ◌==◌, true, false, cond, not, List, [], ◌∷◌, length, map, count_by}
 use Rattle.std.proofs.Common.{refl, ap, sym, ◌∙◌, subst, inl, inr, ⊎_elim, arith, append-nil}
-use Rattle.std.specs.Prelude.{Option, Some, None, unwrap_or}
+use Rattle.std.specs.Prelude.{◌⊎◌, Option, Some, None, unwrap_or}
 use Rattle.std.specs.Ordering.{nat_cmp}
 use Rattle.std.specs.List.{AllByRecursion, AllZip, list_any}
 use Rattle.std.specs.List.Sorted.{IsStrictlySortedBy}
@@ -26,7 +26,8 @@ use Rattle.wu_image.specs.declared.checkpoints.Checkpoint.{Checkpoint}
 use Rattle.wu_image.specs.declared.records.FileRec.{FileRec}
 use Rattle.wu_image.specs.declared.roots.Root.{Root}
 use Rattle.wu_image.specs.Checkpoints.{IsCheckpoint, file_numbers}
-use Rattle.wu_image.specs.Images.{HasSaved, HoldsText, IsByAddress, IsCheckpointOf, IsImage, IsSaved, Texts, postings_from, text_held, text_of}
+use Rattle.wu_image.specs.Images.{HasParts, HasSaved, HoldsText, IsByAddress, IsCheckpointOf, IsImage, IsRenewed, IsSaved, Texts}
+use Rattle.wu_image.specs.Images.{postings_from, text_held, text_of}
 use Rattle.wu_image.specs.LayoutRules.{IsText, lies_in}
 use Rattle.wu_image.proofs.BlobCounts.{blobs_distinct}
 use Rattle.wu_image.proofs.FileNumbers.{file_numbers_ascend}
@@ -34,7 +35,7 @@ use Rattle.wu_image.proofs.FileOrder.{FollowFrom, moved_has}
 use Rattle.wu_image.proofs.RangesInOrder.{files_in_order}
 use Rattle.wu_image.proofs.RuleLemmas.{sum_of_map, texts_filled}
 use Rattle.wu_check.specs.Imaged.{AreOfOneState, IndexesTexts, counts_in, given}
-use Rattle.wu_check.specs.Wrong.{AreSoundTexts, IsRootOf, IsSound, IsSoundPart, IsSoundUnder, counts_of, parts_of}
+use Rattle.wu_check.specs.Wrong.{AreSoundTexts, IsRootOf, IsSound, IsSoundPart, IsSoundUnder, parts_of}
 use Rattle.wu_check.specs.declared.checking.Checked.{Checked}
 use Rattle.wu_check.proofs.AddressOrder.{sorted, sorted_order}
 use Rattle.wu_check.proofs.FileEntries.{each_entry, entries_of, entry_for, files_disjoint, found_as_file}
@@ -249,25 +250,6 @@ module _ (content : Content) (root : Root) (is : IsRootOf content root) (counts 
   abbrev texts_in : Texts
   texts_in = texts content root checkpoint_in rules_in under.texts
 
-  as_image : (layout : Layout) (saved : HasSaved content is.code checkpoint_in.tree texts_in layout)
-      → saved.root.version ≡ root.version → saved.checkpoint ≡ checkpoint_in → AreOfOneState checkpoint_in.tree texts_in layout
-      → IsImageWith content counts
-  as_image layout saved version same one =
-      let told = its_counts content checkpoint_in.tree texts_in layout is.code saved in
-      let of_root : counts_in layout ≡ counts_of root.version saved.checkpoint.files (parts_of root.version saved.checkpoint) =
-      subst (λ (v : ℕ). counts_in layout ≡ counts_of v saved.checkpoint.files (parts_of v saved.checkpoint)) version told in
-      let of_checkpoint : counts_in layout ≡ counts_of root.version checkpoint_in.files (parts_of root.version checkpoint_in) =
-      subst (λ (c : Checkpoint). counts_in layout ≡ counts_of root.version c.files (parts_of root.version c)) same of_root in (
-        checkpoint_in.tree,
-        texts_in,
-        layout,
-        record {
-          saved = subst (λ (r : Option (List ℕ)). IsSaved content r checkpoint_in.tree texts_in layout) (sym is.there) saved;
-        },
-        one,
-        under.counted ∙ sym of_checkpoint,
-      )
-
   own : IsCheckpointOf root under.saved.bytes checkpoint_in
   own = under.saved.sound.spelled
 
@@ -277,63 +259,64 @@ module _ (content : Content) (root : Root) (is : IsRootOf content root) (counts 
   stand : AllZip (HoldsText content texts_in) (entries_of checkpoint_in.files) checkpoint_in.files
   stand = texts_stand content root checkpoint_in rules_in under.texts checkpoint_in.files (λ file h. h)
 
-  second : root.version ≡ 2 → IsImageWith content counts
-  second version =
-      let parts = parts_stand content root checkpoint_in rules_in under.texts checkpoint_in.parts
-      (subst (λ (v : ℕ). AllByRecursion (IsSoundPart content checkpoint_in.files) (parts_of v checkpoint_in)) version under.parts) in
-      as_image (record (plain content root checkpoint_in rules_in under.texts) { flushes = checkpoint_in.flushes; parts = parts.0 })
-      (record {
+  -- the image of a layout of which the checkpoint tells
+  image_with : (layout : Layout) → layout.next ≡ checkpoint_in.next_address → layout.blob ≡ checkpoint_in.next_blob
+      → layout.check ≡ root.checkpoint → layout.files ≡ entries_of checkpoint_in.files → layout.job ≡ None
+      → HasParts content root checkpoint_in layout ⊎ IsRenewed root checkpoint_in texts_in layout
+      → AreOfOneState checkpoint_in.tree texts_in layout → IsImageWith content counts
+  image_with layout next blob check files job index one =
+      let saved : HasSaved content is.code checkpoint_in.tree texts_in layout = record {
         root = root;
         root_spelled = is.spelled;
         bytes = under.saved.bytes;
         held = under.saved.held;
         checkpoint = checkpoint_in;
-        spelled = under.saved.sound.spelled;
+        spelled = own;
         tree_saved = refl;
-        next = refl;
-        blob = refl;
-        check = refl;
-        files = stand;
-        job = refl;
-        index =
-            inl (record {
-              version = version;
-              memory = refl;
-              stale = refl;
-              flushes = refl;
-              parts = held_parts content checkpoint_in.files parts.0 checkpoint_in.parts parts.1;
-            });
-      }) refl refl
+        next = sym next;
+        blob = sym blob;
+        check = sym check;
+        files = subst (λ (entries : List (ℕ × FileEntry)). AllZip (HoldsText content texts_in) entries checkpoint_in.files) (sym files) stand;
+        job = job;
+        index = index;
+      } in (
+        checkpoint_in.tree,
+        texts_in,
+        layout,
+        record { saved = subst (λ (r : Option (List ℕ)). IsSaved content r checkpoint_in.tree texts_in layout) (sym is.there) saved },
+        one,
+        under.counted ∙ sym (its_counts content checkpoint_in.tree texts_in layout is.code saved),
+      )
+
+  second : root.version ≡ 2 → IsImageWith content counts
+  second version =
+      let parts = parts_stand content root checkpoint_in rules_in under.texts checkpoint_in.parts
+      (subst (λ (v : ℕ). AllByRecursion (IsSoundPart content checkpoint_in.files) (parts_of v checkpoint_in)) version under.parts) in
+      image_with (record (plain content root checkpoint_in rules_in under.texts) { flushes = checkpoint_in.flushes; parts = parts.0 })
+      refl refl refl refl refl
+      (inl (record {
+        version = version;
+        memory = refl;
+        stale = refl;
+        flushes = refl;
+        parts = held_parts content checkpoint_in.files parts.0 checkpoint_in.parts parts.1;
+      }))
       (second_indexed content root checkpoint_in rules_in under.texts is.spelled.some drawn own.of_no_text own.of_no_part parts.0
       parts.1 (under.saved.sound.flushes version))
 
   first : root.version ≡ 1 → IsImageWith content counts
   first version =
-      as_image (renewed_layout content root checkpoint_in rules_in under.texts)
-      (record {
-        root = root;
-        root_spelled = is.spelled;
-        bytes = under.saved.bytes;
-        held = under.saved.held;
-        checkpoint = checkpoint_in;
-        spelled = under.saved.sound.spelled;
-        tree_saved = refl;
-        next = refl;
-        blob = refl;
-        check = refl;
-        files = stand;
-        job = refl;
-        index = inr (record {
-          version = version;
-          counted = counted content root checkpoint_in rules_in under.texts;
-          order = sorted checkpoint_in.files;
-          by_address = sorted_order checkpoint_in.files;
-          memory = refl;
-          stale = refl;
-          flushes = refl;
-          parts = refl;
-        });
-      }) refl refl
+      image_with (renewed_layout content root checkpoint_in rules_in under.texts) refl refl refl refl refl
+      (inr (record {
+        version = version;
+        counted = counted content root checkpoint_in rules_in under.texts;
+        order = sorted checkpoint_in.files;
+        by_address = sorted_order checkpoint_in.files;
+        memory = refl;
+        stale = refl;
+        flushes = refl;
+        parts = refl;
+      }))
       (first_indexed content root checkpoint_in rules_in under.texts is.spelled.some drawn own.of_no_text own.of_no_part)
 
   under_image : IsImageWith content counts
@@ -353,9 +336,7 @@ first_of_one =
           (λ ino. sym (files ino)) (λ ino. refl) (first_is_layout (λ ino. given (text_of [] ino)));
     }
 
-pub image_of_sound : (content : Content) (counts : Checked) → IsSound content counts
-    → (tree : FileSystem) × (texts : Texts) × (layout : Layout) × IsImage content tree texts layout × AreOfOneState tree texts layout
-    × (counts ≡ counts_in layout)
+pub image_of_sound : (content : Content) (counts : Checked) → IsSound content counts → IsImageWith content counts
 image_of_sound content counts sound =
     ⊎_elim
     (λ (h : (content.root ≡ None) × (counts ≡ counts_in first_layout)). (

@@ -1,6 +1,6 @@
 -- How a call of an engine comes out, what it reads, and the state after it: with an answer, with a trouble, or with the one that had ended
 -- the engine.
-use Rattle.std.proofs.Common.{◌≡◌, ℕ, ◌≤◌, inl, inr, refl, ap, sym, subst, arith}
+use Rattle.std.proofs.Common.{◌≡◌, ℕ, ◌+◌, ◌≤◌, inl, inr, refl, ap, sym, subst, arith}
 use Rattle.std.specs.Prelude.{◌≢◌, Option, None, Some, IsErrAnd, Result, Ok, Err}
 use Rattle.wu_base.specs.declared.troubles.Trouble.{Trouble}
 use Rattle.wu_base.specs.declared.troubles.Trouble.TheVariants.{Damaged, StoreFault}
@@ -8,11 +8,14 @@ use Rattle.wu_outside.specs.Content.{Content}
 use Rattle.wu_outside.specs.Faults.{Rose}
 use Rattle.wu_outside.specs.declared.traits.Store as stores
 use Rattle.wu_query.specs.States.{State}
-use Rattle.wu_engine.specs.Calls.{AnswersOrEnds, Leads, ReadsNothing, Steps}
+use Rattle.wu_engine.specs.Calls.{AnswersOrEnds, DrawsAtMost, Leads, PutsDrawn, ReadsNothing, Steps}
 use Rattle.wu_engine.specs.Going.{Goes}
 use Rattle.wu_engine.specs.Naming.{AddsNamed}
-use Rattle.wu_engine.specs.Stands.{Stands}
+use Rattle.wu_engine.specs.Stands.{KeepsOthers, Stands}
 use Rattle.wu_engine.specs.declared.engines.Engine.{Engine}
+use Rattle.wu_engine.proofs.DrawnNumbers.{draws_none}
+use Rattle.wu_engine.proofs.LeftImages.{still_left}
+use Rattle.wu_engine.proofs.OtherBlobs.{others_same}
 
 module _ {D T : Type 0} {Store : stores.Ghosts D} {before after : Engine} {old new : D} where
   -- ---- an engine that had not ended
@@ -84,6 +87,20 @@ module _ {D T : Type 0} {Store : stores.Ghosts D} {before : Engine} {old new : D
   none_read_passed (Ok value) trouble is same undamaged = absurd is
   none_read_passed (Err passed) trouble is same undamaged =
       subst (λ (t : Trouble). ReadsNothing {T = T} Store before old new (Err t)) (sym is) (none_read_failed trouble same undamaged)
+
+-- ---- the blobs that are drawn, where none is
+
+pub none_drawn : {D : Type 0} {Store : stores.Ghosts D} {before after : Engine} {old new : D} (most : ℕ) → after.parts ≡ before.parts
+    → after.checkpoint ≡ before.checkpoint → Store.holds new ≡ Store.holds old → Store.moments new ≡ Store.moments old
+    → PutsDrawn Store most before after old new
+none_drawn {Store = Store} {before = before} {old = old} most parts checkpoint holds moments =
+    let next = before.parts.next_blob in
+    record {
+      numbers = subst (DrawsAtMost most before.parts) (sym parts) (draws_none most before.parts);
+      checkpoint = checkpoint;
+      elsewhere = subst (KeepsOthers next (next + most) (Store.holds old)) (sym holds) (others_same next (next + most) (Store.holds old));
+      survives = λ s last stands saved. still_left stands saved moments;
+    }
 
 -- ---- an engine that a trouble had ended
 

@@ -3,8 +3,10 @@ use Rattle.std.proofs.Common.{◌≡◌, ℕ, List, [], ◌∷◌, ◌++◌, len
 use Rattle.std.specs.Prelude.{Option, Some, None, IfErr, IfNone, IfSome, IsErrAnd, OnErr, OnOk, Result, Ok, Err, option_map}
 use Rattle.std.specs.List.{AllByRecursion}
 use Rattle.wu_outside.specs.Content.{Content}
+use Rattle.wu_outside.specs.Crash.{AreAlike, settle}
 use Rattle.wu_outside.specs.Ranges.{asked_size}
 use Rattle.wu_outside.specs.declared.ranges.ReadRange.{ReadRange}
+use Rattle.wu_outside.specs.declared.traits.Store as stores
 use Rattle.wu_lists.proofs.Asking.{ranges-none}
 use Rattle.wu_image.specs.declared.checkpoints.Checkpoint.{Checkpoint}
 use Rattle.wu_image.specs.declared.roots.Root.{Root}
@@ -13,13 +15,16 @@ use Rattle.wu_image.specs.Checkpoints.{SpellsCheckpoint}
 use Rattle.wu_image.proofs.ListedLemmas.{same_checkpoint}
 use Rattle.wu_query.specs.States.{State}
 use Rattle.wu_query.proofs.PermittedBlocks.{reads_joined}
+use Rattle.wu_engine.specs.declared.engines.Engine.{Engine}
 use Rattle.wu_engine.specs.declared.faults.BeginFault.{BeginFault}
 use Rattle.wu_engine.specs.declared.faults.BeginFault.TheVariants as faults
+use Rattle.wu_engine.specs.Begun.{SyncsOnly}
 use Rattle.wu_engine.specs.Opened.{AsksCheckpoint, FindsRoot, IsFoundIn, MatchesRoot, ReadsCheckpoint}
 use Rattle.wu_engine.specs.Opening.{HasCheckpoint, HasOpenRoot, HoldsImage, IsBeginCause, IsDamagedAtOpening, IsIndexRange, IsOpen}
 use Rattle.wu_engine.specs.Opening.{IsOpeningRange, IsSpentWhere, Opens, OpensIndex, ReadsAtOpening, checkpoint_range, checkpoint_ranges}
 use Rattle.wu_engine.specs.Reindexed.{ReadsIndex}
 use Rattle.wu_engine.proofs.ImageStates.{image_undamaged}
+use Rattle.wu_engine.proofs.LeftImages.{opened_durable, opened_left}
 
 -- ---- the checkpoint
 
@@ -203,6 +208,18 @@ on_any_ok P (Err e) p = tt
 pub on_any_err : {T E : Type 0} (P : Type 0) (r : Result T E) → P → OnErr r P
 on_any_err P (Ok x) p = tt
 on_any_err P (Err e) p = p
+
+-- a store that is only synced
+pub syncs_only : {D : Type 0} {Store : stores.Ghosts D} {old new : D} (r : Result Engine BeginFault) → Store.holds new ≡ Store.holds old
+    → Store.moments new ≡ option_map settle (Store.moments old) → AreAlike (Store.holds old) (Store.moments old)
+    → SyncsOnly Store old new r
+syncs_only {Store = Store} {old = old} {new = new} r holds settled alike = record {
+  holds = holds;
+  settled = on_any_ok _ r settled;
+  still = on_any_err _ r (inr settled);
+  survives = opened_left _ _ settled;
+  durable = λ s image. on_any_ok _ r (opened_durable (Store.holds old) (Store.moments old) (Store.moments new) alike settled s image);
+}
 
 pub on_no_ok : {T E : Type 0} (P : Type 0) (Q : E → Type 0) (r : Result T E) → IsErrAnd r Q → OnOk r P
 on_no_ok P Q (Ok x) is = absurd is

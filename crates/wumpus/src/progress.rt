@@ -33,7 +33,9 @@ pub struct WatchedStore<'a, D> {
 
 impl<'a, D> WatchedStore<'a, D> {
     /// The store, of which nothing was read yet. Takes no memory.
-    pub fn new(rt: &'a HostRuntime, store: D) -> WatchedStore<'a, D> {
+    pub fn new(rt: &'a HostRuntime, store: D) -> WatchedStore<'a, D>
+        ensures { result.store ≡ store }
+    {
         WatchedStore {
             rt,
             store,

@@ -1,4 +1,4 @@
-use Rattle.std.proofs.Common.{◌∙◌, inr, arith}
+use Rattle.std.proofs.Common.{◌∙◌, arith}
 use Rattle.std.proofs.lemmas.Result.{IfOk-weaker, on_ok_weaker}
 use Rattle.wu_query.proofs.PassedCauses.{err_from}
 use Rattle.wu_engine.specs.Opening.{IsBeginCause}
@@ -6,9 +6,8 @@ use Rattle.wu_engine.specs.declared.faults.BeginFault.TheVariants.{NoMemory}
 use Rattle.wu_engine.proofs.EarlierBlobs.{drawn_by_root, drawn_without}
 use Rattle.wu_engine.proofs.GoingAtFirst.{first_goes}
 use Rattle.wu_engine.proofs.ImageStates.{first_stands}
-use Rattle.wu_engine.proofs.LeftImages.{opened_durable, opened_left}
-use Rattle.wu_engine.proofs.OpenedStates.{error_passed, never_damaged, on_any_err, on_any_ok, opens_nothing, reads_nothing, spent_on}
-use Rattle.wu_engine.proofs.OpenedStates.{never_spent, on_no_ok}
+use Rattle.wu_engine.proofs.OpenedStates.{error_passed, never_damaged, on_any_ok, opens_nothing, reads_nothing, spent_on}
+use Rattle.wu_engine.proofs.OpenedStates.{never_spent, on_no_ok, syncs_only}
 use Rattle.wu_engine.proofs.engines.Engine.begin.Goals as goal
 
 -- ---- what was saved is opened
@@ -45,18 +44,10 @@ returns-in-Some-clause-reads g c =
 
 pub returns-in-Some-clause-store : goal.returns-in-Some-clause-store
 returns-in-Some-clause-store g c =
-    let r = c.open_saved.result in
-    let settled = c.open_saved.ensures.store.moments ∙ (c.open_root.ensures.store.moments ∙ c.in_ok-sync.ensures.settled) in
-    record {
-      holds = c.open_saved.ensures.store.holds ∙ (c.open_root.ensures.store.holds ∙ c.sync.ensures.same);
-      settled = on_any_ok _ r settled;
-      still = on_any_err _ r (inr settled);
-      survives = opened_left _ _ settled;
-      durable = λ s image.
-          on_any_ok _ r
-          (opened_durable (g.D.Store.holds c.args.store.now) (g.D.Store.moments c.args.store.now)
-          (g.D.Store.moments c.open_saved.new.store) (g.met.D.Store.told_alike c.args.store.now) settled s image);
-    }
+    syncs_only c.open_saved.result
+    (c.open_saved.ensures.store.holds ∙ (c.open_root.ensures.store.holds ∙ c.sync.ensures.same))
+    (c.open_saved.ensures.store.moments ∙ (c.open_root.ensures.store.moments ∙ c.in_ok-sync.ensures.settled))
+    (g.met.D.Store.told_alike c.args.store.now)
 
 pub returns-in-Some-clause-fails : goal.returns-in-Some-clause-fails
 returns-in-Some-clause-fails g c =
@@ -74,18 +65,8 @@ returns-in-Some-clause-fails g c =
 
 pub returns-in_err-open_root-clause-store : goal.returns-in_err-open_root-clause-store
 returns-in_err-open_root-clause-store g c =
-    let r = c.from_residual-in_err-open_root.result in
-    let settled = c.open_root.ensures.store.moments ∙ c.in_ok-sync.ensures.settled in
-    record {
-      holds = c.open_root.ensures.store.holds ∙ c.sync.ensures.same;
-      settled = on_any_ok _ r settled;
-      still = on_any_err _ r (inr settled);
-      survives = opened_left _ _ settled;
-      durable = λ s image.
-          on_any_ok _ r
-          (opened_durable (g.D.Store.holds c.args.store.now) (g.D.Store.moments c.args.store.now)
-          (g.D.Store.moments c.open_root.new.store) (g.met.D.Store.told_alike c.args.store.now) settled s image);
-    }
+    syncs_only c.from_residual-in_err-open_root.result (c.open_root.ensures.store.holds ∙ c.sync.ensures.same)
+    (c.open_root.ensures.store.moments ∙ c.in_ok-sync.ensures.settled) (g.met.D.Store.told_alike c.args.store.now)
 
 pub returns-in_err-open_root-clause-reads : goal.returns-in_err-open_root-clause-reads
 returns-in_err-open_root-clause-reads g c = record {
@@ -140,31 +121,13 @@ returns-in_ok-open_first-in-None-clause-reads g c =
 
 pub returns-in_ok-open_first-in-None-clause-store : goal.returns-in_ok-open_first-in-None-clause-store
 returns-in_ok-open_first-in-None-clause-store g c =
-    let settled = c.open_root.ensures.store.moments ∙ c.in_ok-sync.ensures.settled in
-    record {
-      holds = c.open_root.ensures.store.holds ∙ c.sync.ensures.same;
-      settled = settled;
-      still = tt;
-      survives = opened_left _ _ settled;
-      durable = λ s image.
-          opened_durable (g.D.Store.holds c.args.store.now) (g.D.Store.moments c.args.store.now)
-          (g.D.Store.moments c.open_root.new.store) (g.met.D.Store.told_alike c.args.store.now) settled s image;
-    }
+    syncs_only _ (c.open_root.ensures.store.holds ∙ c.sync.ensures.same)
+    (c.open_root.ensures.store.moments ∙ c.in_ok-sync.ensures.settled) (g.met.D.Store.told_alike c.args.store.now)
 
 pub returns-in_err-open_first-in-None-clause-store : goal.returns-in_err-open_first-in-None-clause-store
 returns-in_err-open_first-in-None-clause-store g c =
-    let r = c.from_residual-in_err-open_first-in-None.result in
-    let settled = c.open_root.ensures.store.moments ∙ c.in_ok-sync.ensures.settled in
-    record {
-      holds = c.open_root.ensures.store.holds ∙ c.sync.ensures.same;
-      settled = on_any_ok _ r settled;
-      still = on_any_err _ r (inr settled);
-      survives = opened_left _ _ settled;
-      durable = λ s image.
-          on_any_ok _ r
-          (opened_durable (g.D.Store.holds c.args.store.now) (g.D.Store.moments c.args.store.now)
-          (g.D.Store.moments c.open_root.new.store) (g.met.D.Store.told_alike c.args.store.now) settled s image);
-    }
+    syncs_only c.from_residual-in_err-open_first-in-None.result (c.open_root.ensures.store.holds ∙ c.sync.ensures.same)
+    (c.open_root.ensures.store.moments ∙ c.in_ok-sync.ensures.settled) (g.met.D.Store.told_alike c.args.store.now)
 
 pub returns-in_ok-open_first-in-None-clause-fails : goal.returns-in_ok-open_first-in-None-clause-fails
 returns-in_ok-open_first-in-None-clause-fails g c = record {

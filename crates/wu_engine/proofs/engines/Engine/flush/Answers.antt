@@ -3,12 +3,12 @@ use Rattle.wu_base.specs.declared.addresses.Range.{Range}
 use Rattle.wu_layout.specs.Postings.{live_of}
 use Rattle.wu_engine.proofs.AddedBlobs.{draws_named, flushed_draws}
 use Rattle.wu_engine.proofs.CallEnds.{ends_again, ends_answered, ends_failed, leads_answered, none_read, none_read_again}
-use Rattle.wu_engine.proofs.CallEnds.{had_ended, none_read_failed}
-use Rattle.wu_engine.proofs.DrawnNumbers.{draws_failed, draws_flushed, draws_none}
+use Rattle.wu_engine.proofs.CallEnds.{none_drawn, none_read_failed}
+use Rattle.wu_engine.proofs.DrawnNumbers.{draws_failed, draws_flushed}
 use Rattle.wu_engine.proofs.GoingEvents.{flush_sound, goes_with, has_none}
 use Rattle.wu_engine.proofs.LeftImages.{put_left}
 use Rattle.wu_engine.proofs.NamedBlobs.{flush_names}
-use Rattle.wu_engine.proofs.OtherBlobs.{others_put, others_same}
+use Rattle.wu_engine.proofs.OtherBlobs.{others_put}
 use Rattle.wu_engine.proofs.StandLemmas.{flushed_on}
 use Rattle.wu_engine.proofs.engines.Engine.flush.Goals as goal
 
@@ -77,11 +77,4 @@ returns-in-Err-clause-drawn g c =
     }
 
 pub returns-in-Some-clause-drawn : goal.returns-in-Some-clause-drawn
-returns-in-Some-clause-drawn g c =
-    let next = c.args.self.now.parts.next_blob in
-    record {
-      numbers = draws_none 1 c.args.self.now.parts;
-      checkpoint = refl;
-      elsewhere = others_same next (next + 1) (g.D.Store.holds c.args.store.now);
-      survives = λ s last stands saved. had_ended c.in-Some.is stands.goes_on;
-    }
+returns-in-Some-clause-drawn g c = none_drawn 1 refl refl refl refl

@@ -7,15 +7,13 @@ use Rattle.wu_engine.specs.Renewing.{Touches, touched_of}
 use Rattle.wu_engine.specs.States.{after_event}
 use Rattle.wu_engine.proofs.AddedBlobs.{draws_named, event_draws, none_added}
 use Rattle.wu_engine.proofs.CallEnds.{ends_again, ends_answered, ends_failed, ends_passed, none_read, none_read_again}
-use Rattle.wu_engine.proofs.CallEnds.{had_ended, none_read_failed, none_read_passed, steps_answered}
-use Rattle.wu_engine.proofs.DrawnNumbers.{draws_none}
+use Rattle.wu_engine.proofs.CallEnds.{none_drawn, none_read_failed, none_read_passed, steps_answered}
 use Rattle.wu_engine.proofs.FileChanges.{changes}
 use Rattle.wu_engine.proofs.GoingEvents.{HasSome, goes_followed, goes_with, has_followed}
 use Rattle.wu_engine.proofs.KeptFrames.{touches}
-use Rattle.wu_engine.proofs.LeftImages.{no_puts, puts_left, still_left}
+use Rattle.wu_engine.proofs.LeftImages.{no_puts, puts_left}
 use Rattle.wu_engine.proofs.LeftStores.{left_alone}
 use Rattle.wu_engine.proofs.NamedBlobs.{event_names}
-use Rattle.wu_engine.proofs.OtherBlobs.{others_same}
 use Rattle.wu_engine.proofs.SoundLemmas.{indexable, length-terms_after, sound_followed}
 use Rattle.wu_engine.proofs.StandLemmas.{accepted, refused}
 use Rattle.wu_engine.proofs.engines.Engine.update.Goals as goal
@@ -213,44 +211,16 @@ returns-in-Some-clause-tried g c =
     let next = c.args.self.now.parts.next_blob in no_puts next (next + 2) 2 (g.D.Store.moments c.args.store.now) (omega arith)
 
 pub returns-in_err-touched-clause-drawn : goal.returns-in_err-touched-clause-drawn
-returns-in_err-touched-clause-drawn g c =
-    let next = c.args.self.now.parts.next_blob in
-    record {
-      numbers = draws_none 2 c.args.self.now.parts;
-      checkpoint = refl;
-      elsewhere = others_same next (next + 2) (g.D.Store.holds c.args.store.now);
-      survives = λ s last stands saved. still_left stands saved refl;
-    }
+returns-in_err-touched-clause-drawn g c = none_drawn 2 refl refl refl refl
 
 pub returns-in_err-effect-clause-drawn : goal.returns-in_err-effect-clause-drawn
-returns-in_err-effect-clause-drawn g c =
-    let next = c.args.self.now.parts.next_blob in
-    record {
-      numbers = draws_none 2 c.args.self.now.parts;
-      checkpoint = refl;
-      elsewhere = others_same next (next + 2) (g.D.Store.holds c.args.store.now);
-      survives = λ s last stands saved. still_left stands saved refl;
-    }
+returns-in_err-effect-clause-drawn g c = none_drawn 2 refl refl refl refl
 
 pub returns-in-Err-clause-drawn : goal.returns-in-Err-clause-drawn
-returns-in-Err-clause-drawn g c =
-    let next = c.args.self.now.parts.next_blob in
-    record {
-      numbers = draws_none 2 c.args.self.now.parts;
-      checkpoint = refl;
-      elsewhere = others_same next (next + 2) (g.D.Store.holds c.args.store.now);
-      survives = λ s last stands saved. still_left stands saved refl;
-    }
+returns-in-Err-clause-drawn g c = none_drawn 2 refl refl refl refl
 
 pub returns-in-Some-clause-drawn : goal.returns-in-Some-clause-drawn
-returns-in-Some-clause-drawn g c =
-    let next = c.args.self.now.parts.next_blob in
-    record {
-      numbers = draws_none 2 c.args.self.now.parts;
-      checkpoint = refl;
-      elsewhere = others_same next (next + 2) (g.D.Store.holds c.args.store.now);
-      survives = λ s last stands saved. had_ended c.in-Some.is stands.goes_on;
-    }
+returns-in-Some-clause-drawn g c = none_drawn 2 refl refl refl refl
 
 pub returns-in-Ok-followed-clause-drawn : goal.returns-in-Ok-followed-clause-drawn
 returns-in-Ok-followed-clause-drawn g c =

@@ -3,12 +3,11 @@ use Rattle.wu_parts.specs.Contents.{Contents}
 use Rattle.wu_parts.specs.Memory.{HasPostings, Memory}
 use Rattle.wu_engine.proofs.AddedBlobs.{draws_named, units_draw}
 use Rattle.wu_engine.proofs.BrokenBlobs.{worked_is_broken}
-use Rattle.wu_engine.proofs.CallEnds.{ends_again, ends_answered, ends_failed, had_ended, steps_answered}
-use Rattle.wu_engine.proofs.DrawnNumbers.{draws_none, draws_worked}
+use Rattle.wu_engine.proofs.CallEnds.{ends_again, ends_answered, ends_failed, had_ended, none_drawn, steps_answered}
+use Rattle.wu_engine.proofs.DrawnNumbers.{draws_worked}
 use Rattle.wu_engine.proofs.GoingUnits.{units_sound}
 use Rattle.wu_engine.proofs.LeftImages.{no_puts, puts_drawn, puts_left}
 use Rattle.wu_engine.proofs.NamedBlobs.{work_names}
-use Rattle.wu_engine.proofs.OtherBlobs.{others_same}
 use Rattle.wu_engine.proofs.WorkedStates.{others_drawn, parts_told, worked_on}
 use Rattle.wu_engine.proofs.WorkReads.{stop_permitted, work_permitted}
 use Rattle.wu_engine.proofs.engines.Engine.work.Goals as goal
@@ -146,14 +145,7 @@ returns-in-Err-clause-drawn g c =
     }
 
 pub returns-in-Some-clause-drawn : goal.returns-in-Some-clause-drawn
-returns-in-Some-clause-drawn g c =
-    let next = c.args.self.now.parts.next_blob in
-    record {
-      numbers = draws_none c.args.n c.args.self.now.parts;
-      checkpoint = refl;
-      elsewhere = others_same next (next + c.args.n) (g.D.Store.holds c.args.store.now);
-      survives = λ s last stands saved. had_ended c.in-Some.is stands.goes_on;
-    }
+returns-in-Some-clause-drawn g c = none_drawn c.args.n refl refl refl refl
 
 pub returns-in-Err-clause-counted : goal.returns-in-Err-clause-counted
 returns-in-Err-clause-counted g c = rw c.end_with.ensures.same.parts (ap (λ (p : Contents). p.flushes) c.work.ensures.changes.others)
