@@ -27,6 +27,7 @@ fn start_of<'a>(call: &str, arguments: &[&'a str]) -> Result<(u64, u64, &'a str)
         ("Parts::draw_blob", [next_blob]) => Ok((1, number(next_blob)?, "")),
         ("Parts::full", [flush_at, ..]) => Ok((number(flush_at)?, 1, "")),
         ("Parts::fetch" | "Parts::tally", [fails, ..]) => Ok((1, 1, fails)),
+        ("Parts::gather", [fails, ..]) => Ok((1, 1, fails)),
         ("Parts::work" | "Parts::load", [fails, ..]) => Ok((1, 1, fails)),
         ("Parts::flush", [fails, _]) => Ok((1, 1, fails)),
         _ => Ok((1, 1, "")),
@@ -43,6 +44,9 @@ fn told(alloc: Global, index: &mut Index, call: &str, arguments: &[&str]) -> Res
         ("Parts::flush", [steps, "holds", blob]) => questions::held(alloc, index, steps, blob),
         ("Parts::fetch", [_, steps, term]) => questions::fetched(alloc, index, steps, term),
         ("Parts::tally", [_, steps, term]) => questions::tallied(alloc, index, steps, term),
+        ("Parts::gather", [_, steps, term, start, len]) => {
+            questions::gathered(alloc, index, steps, term, start, len)
+        }
         ("Parts::work", [_, steps, units]) => questions::worked(alloc, index, steps, units),
         ("Parts::load", [_, steps, records, more, term]) => {
             openings::loaded(alloc, index, steps, records, more, term)

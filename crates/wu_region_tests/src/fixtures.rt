@@ -46,7 +46,7 @@ fn put_terms(alloc: Global, terms: &mut Vec<Bytes>, text: &[u8]) -> Result<(), N
 }
 
 /// The addresses at which the term stands.
-fn places_of(alloc: Global, term: &[u8], terms: &[Bytes]) -> Result<Vec<u64>, NoMemory>
+pub fn places_of(alloc: Global, term: &[u8], terms: &[Bytes]) -> Result<Vec<u64>, NoMemory>
     ensures { IfOk result (λ v. IsStrictlyIncreasing v.items) }
 {
     let mut places = Vec::new(alloc);

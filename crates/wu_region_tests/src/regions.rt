@@ -1,6 +1,8 @@
 //! The extents that expressions mean.
 use crate::expressions::expression;
-use crate::fixtures::{corpus_of, frames_of, joined_frame, lists_of, solved, solved_and_counted};
+use crate::fixtures::{
+    are_apart, corpus_of, frames_of, joined_frame, lists_of, places_of, solved, solved_and_counted,
+};
 use crate::plain::solve_plainly;
 use std::alloc::Global;
 use wu_gcl::terms_of;
@@ -9,7 +11,7 @@ use wu_rows::{
     plain_text,
 };
 use wu_solve::{
-    Counts, count_apart, extents_ascend, find_term, frames_of_texts, needed_terms,
+    Counts, count_apart, extents_ascend, find_term, frames_met, frames_of_texts, needed_terms,
     needed_terms_stand, only_term, solve_apart,
 };
 
@@ -25,6 +27,7 @@ pub fn answer(alloc: Global, call: &str, arguments: &[&str]) -> Result<String, N
         ("only_term", [expr]) => term_alone(alloc, expr),
         ("needed_terms", [expr]) => needed(alloc, expr),
         ("find_term", [expr, term]) => list_place(alloc, expr, term),
+        ("frames_met", [texts, numbers, term]) => frames_with(alloc, texts, numbers, term),
         ("extents_ascend", []) => {
             extents_ascend();
             plain_text(alloc, "a law")
@@ -131,4 +134,20 @@ fn list_place(alloc: Global, expr: &str, term: &str) -> Result<String, NoAnswer>
         Some(place) => number_text(alloc, place as u64),
         None => plain_text(alloc, "none"),
     }
+}
+
+/// Where the frames start in which the term stands, of those of the texts with these numbers, which
+/// ascend.
+fn frames_with(alloc: Global, texts: &str, numbers: &str, term: &str) -> Result<String, NoAnswer> {
+    let corpus = corpus_of(alloc, texts)?;
+    let frames = frames_of(alloc, &corpus, numbers)?;
+    if !are_apart(&frames) {
+        return Err(NoAnswer::BadRow);
+    }
+    let places = places_of(alloc, &bytes(alloc, term)?, &corpus.terms)?;
+    let mut starts = Vec::new(alloc);
+    for frame in &frames_met(alloc, &places, &frames)? {
+        starts.push(frame.start)?;
+    }
+    numbers_text(alloc, &starts)
 }

@@ -5,6 +5,7 @@ mod nodes;
 mod rebuilding;
 mod refusals;
 mod told;
+mod views;
 
 use std::alloc::Global;
 use wu_rows::{NoAnswer, words};

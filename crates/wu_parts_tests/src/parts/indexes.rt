@@ -7,7 +7,7 @@ use std::alloc::{AllocError, Global};
 use wu_base::{ADDRESSES_MAX, Ino, NoMemory, Range, Sequence, Trouble, Worked};
 use wu_outside::MemStore;
 use wu_parts::Parts;
-use wu_rows::{NoAnswer, bytes, numbers, plain_text};
+use wu_rows::{NoAnswer, bytes, numbers, numbers_text, plain_text};
 use wu_space::Space;
 
 /// A Parts, the space of its files, its store, and how many numbers of files stand below that of the next step.
@@ -134,6 +134,31 @@ pub fn tally(
     let hits = tally.hits;
     let files = tally.frames;
     Ok(format!(in alloc; "{hits} in {files}")?)
+}
+
+/// Those of the term's addresses that lie in the frame, gathered first in the files that are live, and how many there
+/// are at least.
+pub fn gather(
+    alloc: Global,
+    parts: &mut Parts,
+    store: &mut MemStore,
+    space: &Space,
+    term: &str,
+    frame: Range,
+) -> Result<String, Stop>
+    ensures { OnOk result (parts.new.memory.end ≡ parts.old.memory.end) }
+{
+    let term = bytes(alloc, term)?;
+    let frames = live_frames(space)?;
+    let gathered = parts.gather(store, &term, &frames)?;
+    let near = [frame];
+    if !are_bounded(&near) {
+        return Err(Stop::NoAnswer(NoAnswer::BadRow));
+    }
+    let found = gathered.within(alloc, &near)?;
+    let addresses = numbers_text(alloc, found.as_slice())?;
+    let count = gathered.count_at_most();
+    Ok(format!(in alloc; "{addresses} of {count}")?)
 }
 
 /// The ranges of the files that are live.

@@ -1,10 +1,10 @@
 //! What rows ask for of an index after steps.
 ghost use Rattle.std.specs.Prelude.{◌≤◌};
 
-use crate::parts::indexes::{Index, Stop, fetch, tally, work};
+use crate::parts::indexes::{Index, Stop, fetch, gather, tally, work};
 use crate::parts::steps::go_on;
 use std::alloc::{AllocError, Global};
-use wu_base::{PartRec, Worked};
+use wu_base::{PartRec, Range, Worked};
 use wu_outside::{MemStore, Store};
 use wu_parts::Parts;
 use wu_rows::{NoAnswer, bytes_text, flag_text, number, numbers_text, plain_text, small_number};
@@ -69,6 +69,32 @@ pub fn tallied(alloc: Global, index: &mut Index, steps: &str, term: &str) -> Res
         &mut index.store,
         &index.space,
         term,
+    )
+}
+
+/// Which of the term's addresses lie in a frame after the steps, and how many were gathered in the files that are live then.
+pub fn gathered(
+    alloc: Global,
+    index: &mut Index,
+    steps: &str,
+    term: &str,
+    start: &str,
+    len: &str,
+) -> Result<String, Stop>
+    requires { index.old.parts.memory.end ≤ index.old.space.next }
+{
+    go_on(alloc, index, steps)?;
+    let frame = Range {
+        start: number(start)?,
+        len: number(len)?,
+    };
+    gather(
+        alloc,
+        &mut index.parts,
+        &mut index.store,
+        &index.space,
+        term,
+        frame,
     )
 }
 

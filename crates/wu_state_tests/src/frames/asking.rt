@@ -99,8 +99,10 @@ pub fn kept(
 /// The numbers of the files of the view.
 fn view(alloc: Global, frames: &Frames) -> Result<String, NoAnswer> {
     let mut text = String::new(alloc);
-    for file in frames.seen.as_slice() {
-        let ino = file.ino;
+    for place in 0..frames.seen.len() {
+        let Some(ino) = frames.seen.ino_at(place) else {
+            break;
+        };
         if !text.is_empty() {
             text.push(' ')?;
         }
@@ -164,12 +166,13 @@ fn is_anew(
 ) -> Result<bool, NoAnswer> {
     let mut cache = FrameCache::new(alloc)?;
     match kept {
-        Some(frames) => is_same(&mut cache, tree, space, uid, frames),
+        Some(frames) => is_same(alloc, &mut cache, tree, space, uid, frames),
         None => Ok(false),
     }
 }
 
 fn is_same(
+    alloc: Global,
     cache: &mut FrameCache,
     tree: &Tree,
     space: &Space,
@@ -179,10 +182,12 @@ fn is_same(
     requires { CacheMatchesTree tree.now space.now.ranges cache.old }
 {
     let anew = cache.frames_of(tree, space, uid)?;
+    let seen = frames.seen.to_seen(alloc)?;
+    let seen_anew = anew.seen.to_seen(alloc)?;
     Ok(
         frames.total == anew.total
             && frames.ranges.as_slice() == anew.ranges.as_slice()
             && frames.by_address.as_slice() == anew.by_address.as_slice()
-            && frames.seen.as_slice() == anew.seen.as_slice(),
+            && seen.as_slice() == seen_anew.as_slice(),
     )
 }

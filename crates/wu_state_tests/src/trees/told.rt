@@ -1,12 +1,12 @@
 //! What a tree tells.
 use crate::trees::events::name_of_word;
-use crate::trees::{acls, nodes};
+use crate::trees::{acls, nodes, views};
 use std::alloc::{AllocError, Global};
 use wu_access::UserRec;
 use wu_base::{Bytes, Ino, Uid};
 use wu_rows::{NoAnswer, flag_text, number, number_text, plain_text, shown, small_number};
 use wu_tree::Tree;
-use wu_view::{FileList, files_of, searchable};
+use wu_view::searchable;
 
 /// What the tree tells at the call.
 pub fn answered(
@@ -24,7 +24,9 @@ pub fn answered(
         ("names" | "entry" | "entries" | "child", _) => of_names(alloc, tree, call, arguments),
         ("users" | "user_at" | "groups_of", _) => of_users(alloc, tree, call, arguments),
         ("searchable", [uid]) => paths(alloc, tree, small_number(uid)?),
-        ("files_of", [uid]) => least_paths(alloc, tree, small_number(uid)?),
+        ("view_of" | "ino_at" | "least_path_at" | "seen_at" | "to_seen", _) => {
+            views::answered(alloc, tree, call, arguments)
+        }
         _ => Err(NoAnswer::BadRow),
     }
 }
@@ -183,30 +185,5 @@ fn put_paths(out: &mut Vec<u8>, paths: &[Bytes]) -> Result<(), NoAnswer> {
         out.extend_from_slice(path.as_slice())?;
         out.push(b'\n')?;
     }
-    Ok(())
-}
-
-/// The files that the user sees, in the order of her view, each with the least of its paths there.
-fn least_paths(alloc: Global, tree: &Tree, uid: Uid) -> Result<String, NoAnswer> {
-    let list = files_of(alloc, tree, uid)?;
-    let mut out = Vec::new(alloc);
-    for place in 0..list.len() {
-        put_file(alloc, &mut out, &list, place)?;
-    }
-    shown(alloc, out.as_slice())
-}
-
-fn put_file(
-    alloc: Global,
-    out: &mut Vec<u8>,
-    list: &FileList,
-    place: usize,
-) -> Result<(), NoAnswer> {
-    let (Some(ino), Some(path)) = (list.ino_at(place), list.path_at(alloc, place)?) else {
-        return Ok(());
-    };
-    out.extend_from_slice(format!(in alloc; "{ino} ")?.as_bytes())?;
-    out.extend_from_slice(path.as_slice())?;
-    out.push(b'\n')?;
     Ok(())
 }
