@@ -4,7 +4,6 @@ import json
 import os
 import statistics
 import subprocess
-import sys
 import time
 from collections.abc import Callable, Sequence
 from dataclasses import dataclass
@@ -39,7 +38,7 @@ def run_child(words: Sequence[str], folder: str, input_path: str = os.devnull, i
     with open(input_path, "rb") as source:
         start = time.perf_counter()
         child = subprocess.Popen(words, cwd=folder, stdin=subprocess.PIPE if input_bytes else source, stdout=subprocess.DEVNULL)
-        if input_bytes:
+        if child.stdin is not None:
             child.stdin.write(input_bytes)
             child.stdin.close()
         _, status, used = os.wait4(child.pid, 0)
@@ -80,17 +79,19 @@ class Session:
         self.child = subprocess.Popen(
             [program, "run", *options], cwd=folder, stdin=subprocess.PIPE, stdout=subprocess.PIPE, bufsize=1 << 16
         )
+        assert self.child.stdin is not None and self.child.stdout is not None
+        self.input, self.output = self.child.stdin, self.child.stdout
 
     def reply(self) -> bytes:
         """Reads one reply, with the lines that it tells to follow."""
-        lines = [self.child.stdout.readline()]
+        lines = [self.output.readline()]
         fields = lines[0].split()
         if not fields:
             raise RuntimeError("the program ended before its reply")
         if fields[0] == b"export":
-            return lines[0] + self.child.stdout.read(int(fields[1]) + 1)
+            return lines[0] + self.output.read(int(fields[1]) + 1)
         following = int(fields[-1]) if fields[0] in (b"find", b"rank", b"paths", b"terms", b"top") else 0
-        lines += [self.child.stdout.readline() for _ in range(following)]
+        lines += [self.output.readline() for _ in range(following)]
         return b"".join(lines)
 
     def ask(self, lines: Sequence[bytes]) -> list[bytes]:
@@ -98,8 +99,8 @@ class Session:
         replies = []
         for start in range(0, len(lines), LINES_AT_ONCE):
             some = lines[start : start + LINES_AT_ONCE]
-            self.child.stdin.write(b"".join(some))
-            self.child.stdin.flush()
+            self.input.write(b"".join(some))
+            self.input.flush()
             replies += [self.reply() for _ in some]
         return replies
 
@@ -122,8 +123,8 @@ class Session:
 
     def close(self) -> None:
         """Ends the input, which saves, and waits for the end of the session."""
-        self.child.stdin.close()
-        self.child.stdout.close()
+        self.input.close()
+        self.output.close()
         if self.child.wait() != 0:
             raise RuntimeError(f"the session ended with status {self.child.returncode}")
 
@@ -138,16 +139,17 @@ def opened(program: str, folder: str) -> tuple[Usage, Session]:
 
 
 class PeerSession:
-    """One session of FTS5, in a process of its own."""
+    """One session of FTS5 or of Xapian, in a process of its own."""
 
-    def __init__(self, database: str) -> None:
-        words = [sys.executable, os.path.join(HERE, "peer.py"), "serve", database]
+    def __init__(self, words: Sequence[str]) -> None:
         self.child = subprocess.Popen(words, stdin=subprocess.PIPE, stdout=subprocess.PIPE, text=True)
+        assert self.child.stdin is not None and self.child.stdout is not None
+        self.input, self.output = self.child.stdin, self.child.stdout
 
     def timed(self, name: str, *arguments: Any) -> tuple[Usage, Any]:
         """Makes a request, and tells the time that it took inside the peer's process, and its answer."""
-        print(json.dumps([name, arguments]), file=self.child.stdin, flush=True)
-        reply = json.loads(self.child.stdout.readline())
+        print(json.dumps([name, arguments]), file=self.input, flush=True)
+        reply = json.loads(self.output.readline())
         return Usage(reply["wall"], reply["processor"]), reply["answer"]
 
     def peak(self) -> float:
@@ -156,8 +158,8 @@ class PeerSession:
 
     def close(self) -> None:
         """Ends the session."""
-        self.child.stdin.close()
-        self.child.stdout.close()
+        self.input.close()
+        self.output.close()
         self.child.wait()
 
 

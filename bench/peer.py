@@ -70,18 +70,20 @@ ACCESS_STEPS = [
    WHERE link.ino = touched_file.ino)""",
 ]
 
-# Two forms of one question. In the join the planner's own order is the other one, which looks the word up for each readable file, so it is
-# forced; the plus has the subquery's rows kept in a list.
-FORMS = ["join", "subquery"]
+# Two forms of one question, and one without a filter, for the user who may read all. In the join the planner's own order is the other one,
+# which looks the word up for each readable file, so it is forced; the plus has the subquery's rows kept in a list.
+JOIN, SUBQUERY, UNFILTERED = "join", "subquery", "unfiltered"
 COUNT = {
-    "join": "SELECT count(*) FROM texts CROSS JOIN readable ON readable.ino = texts.rowid WHERE texts MATCH ? AND readable.uid = ?",
-    "subquery": "SELECT count(*) FROM texts WHERE texts MATCH ? AND +rowid IN (SELECT ino FROM readable WHERE uid = ?)",
+    JOIN: "SELECT count(*) FROM texts CROSS JOIN readable ON readable.ino = texts.rowid WHERE texts MATCH ? AND readable.uid = ?",
+    SUBQUERY: "SELECT count(*) FROM texts WHERE texts MATCH ? AND +rowid IN (SELECT ino FROM readable WHERE uid = ?)",
+    UNFILTERED: "SELECT count(*) FROM texts WHERE texts MATCH ?",
 }
 RANK = {
-    "join": """SELECT texts.rowid, bm25(texts) AS score FROM texts CROSS JOIN readable ON readable.ino = texts.rowid
+    JOIN: """SELECT texts.rowid, bm25(texts) AS score FROM texts CROSS JOIN readable ON readable.ino = texts.rowid
  WHERE texts MATCH ? AND readable.uid = ? ORDER BY score LIMIT 10""",
-    "subquery": """SELECT rowid, bm25(texts) AS score FROM texts
+    SUBQUERY: """SELECT rowid, bm25(texts) AS score FROM texts
  WHERE texts MATCH ? AND +rowid IN (SELECT ino FROM readable WHERE uid = ?) ORDER BY score LIMIT 10""",
+    UNFILTERED: "SELECT rowid, bm25(texts) AS score FROM texts WHERE texts MATCH ? ORDER BY score LIMIT 10",
 }
 STATEMENTS = {"word": COUNT, "phrase": COUNT, "near": COUNT, "rank": RANK}
 
@@ -131,7 +133,7 @@ def optimize(path: str) -> None:
 def renew_access(connection: sqlite3.Connection, top: int, user: int | None) -> None:
     """Makes the rows of the files below a directory anew, for one user or for all."""
     for step in ACCESS_STEPS:
-        connection.execute(step, {"top": top, "user": user} if ":" in step else {})
+        connection.execute(step, {"top": top, "user": user})
 
 
 def access(path: str) -> None:
@@ -153,9 +155,10 @@ def timed(work: Callable[[], Any]) -> dict[str, Any]:
 class Server:
     """One session of the database, opened at the first request."""
 
+    connection: sqlite3.Connection
+
     def __init__(self, path: str) -> None:
         self.path = path
-        self.connection: sqlite3.Connection | None = None
 
     def open(self) -> Any:
         """Opens the database and asks for a word that no text has, so that the index is opened too."""
@@ -165,8 +168,9 @@ class Server:
     def ask(self, form: str, kind: str, matches: list[str], user: int, repeat: int) -> list[Any]:
         """Asks some queries as one user, again and again, and returns the answers of the last time."""
         statement, answers = STATEMENTS[kind][form], []
+        given = [(match,) if form == UNFILTERED else (match, user) for match in matches]
         for _ in range(repeat):
-            answers = [self.connection.execute(statement, (match, user)).fetchall() for match in matches]
+            answers = [self.connection.execute(statement, some).fetchall() for some in given]
         return answers
 
     def change_mode(self, ino: int, mode: int, renewed: int | None, match: str, user: int) -> Any:
@@ -174,34 +178,35 @@ class Server:
         self.connection.execute("BEGIN")
         self.connection.execute("UPDATE node SET mode = ? WHERE ino = ?", (mode, ino))
         renew_access(self.connection, ino, renewed)
-        answer = self.connection.execute(COUNT["join"], (match, user)).fetchall()
+        answer = self.connection.execute(COUNT[JOIN], (match, user)).fetchall()
         self.connection.execute("COMMIT")
         return answer
 
     def change_text(self, ino: int, body: str, match: str, user: int) -> Any:
         """Gives a file another text, saves, and counts."""
         self.connection.execute("UPDATE texts SET body = ? WHERE rowid = ?", (body, ino))
-        return self.connection.execute(COUNT["join"], (match, user)).fetchall()
+        return self.connection.execute(COUNT[JOIN], (match, user)).fetchall()
 
     def index_bytes(self) -> int:
         """Returns the bytes of the index: all tables of FTS5 but the one that keeps the texts."""
-        return self.connection.execute(
-            "SELECT sum(pgsize) FROM dbstat WHERE name LIKE 'texts_%' AND name <> 'texts_content'"
-        ).fetchone()[0]
+        statement = "SELECT sum(pgsize) FROM dbstat WHERE name LIKE 'texts_%' AND name <> 'texts_content'"
+        return int(self.connection.execute(statement).fetchone()[0])
 
-    def serve(self) -> None:
-        """Answers requests until the input ends."""
-        for request in sys.stdin:
-            name, arguments = json.loads(request)
-            print(json.dumps(timed(lambda: getattr(self, name)(*arguments))), flush=True)
+
+def serve(server: object) -> None:
+    """Answers requests, which name a method of the server, until the input ends."""
+    for request in sys.stdin:
+        name, arguments = json.loads(request)
+        print(json.dumps(timed(lambda: getattr(server, name)(*arguments))), flush=True)
 
 
 def main(arguments: list[str]) -> None:
     """Does what the first argument tells."""
     if arguments[0] == "serve":
-        Server(arguments[1]).serve()
+        serve(Server(arguments[1]))
     else:
-        {"build": build, "optimize": optimize, "access": access}[arguments[0]](*arguments[1:])
+        commands: dict[str, Callable[..., None]] = {"build": build, "optimize": optimize, "access": access}
+        commands[arguments[0]](*arguments[1:])
 
 
 if __name__ == "__main__":
