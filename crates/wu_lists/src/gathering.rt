@@ -1,5 +1,5 @@
 //! Blocks of a term, gathered and not yet decoded.
-ghost use Rattle.std.specs.Prelude.{◌≡◌, ◌+◌, ◌-◌, ◌^◌, ◌<◌, ◌≤◌, ◌++◌, ℕ, List, [], filter, length, take, OnErr, OnOk};
+ghost use Rattle.std.specs.Prelude.{◌≡◌, ◌+◌, ◌-◌, ◌^◌, ◌<◌, ◌≤◌, ◌++◌, ℕ, List, [], filter, length, min, take, OnErr, OnOk};
 ghost use Rattle.std.specs.List.{AllByRecursion};
 ghost use Rattle.std.specs.List.Sorted.{IsNonDecreasingBy};
 ghost use Rattle.wu_layout.specs.Postings.{is_live};
@@ -25,14 +25,15 @@ pub struct GatheredBlocks {
 }
 
 impl Model for GatheredBlocks {
-    ghost use Rattle.std.specs.Prelude.{List, ℕ};
+    ghost use Rattle.std.specs.Prelude.{List, ℕ, ◌≡◌, ◌^◌, ◌-◌, length, min};
     ghost use Rattle.wu_lists.specs.Gathering.{AreCopied, addresses_in};
 
     ghost Value = { List ℕ };
 
     ghost view = { λ g. addresses_in g.bytes.items g.blocks.items };
 
-    ghost invariant = { λ g. AreCopied g.bytes.items g.blocks.items };
+    ghost invariant = { λ g. AreCopied g.bytes.items g.blocks.items
+        × (g.count ≡ min (length (addresses_in g.bytes.items g.blocks.items)) (2 ^ 64 - 1)) };
 }
 
 impl GatheredBlocks {
@@ -47,8 +48,10 @@ impl GatheredBlocks {
         }
     }
 
-    /// How many addresses the blocks have: a hint, which no contract speaks of.
-    pub fn count(&self) -> u64 {
+    /// How many addresses the blocks have, or `u64::MAX` where that is less.
+    pub fn count(&self) -> u64
+        ensures { result ≡ min (length self.now) (2 ^ 64 - 1) }
+    {
         self.count
     }
 

@@ -2,6 +2,7 @@
 ghost use Rattle.std.specs.Prelude.{◌≡◌, ◌+◌, ◌-◌, ◌^◌, ◌<◌, ◌≤◌, ℕ, List, [], ◌∷◌, All, filter, true, false, IfErr, IfSome, OnErr, OnOk};
 ghost use Rattle.std.specs.List.{AllByRecursion};
 ghost use Rattle.std.specs.Map.{keys_of};
+ghost use Rattle.wu_base.specs.declared.addresses.Range.{Range};
 ghost use Rattle.wu_base.specs.declared.limits.TheConstants.{ADDRESSES_MAX};
 ghost use Rattle.wu_base.specs.Ranges.{AreApart};
 ghost use Rattle.wu_part.specs.Directories.{AreBlocks};
@@ -139,40 +140,43 @@ impl Lists {
             (IfSome (D.holds store.old) (λ content. IsSpelledIn content block.now → ⊥))
             (D.faults store.old) (D.faults store.new) (D.reads store.old) (D.reads store.new)) }
     {
-        if !found.wants() {
-            self.touch_block(store, block, frames)
-        } else if found.copies() {
-            self.copy_block(store, block, frames, found)
-        } else {
-            self.put_block(store, block, frames, found)
+        if !is_needed(block, frames) {
+            return Ok(());
         }
+        self.pass_on(store, block, frames, found)
     }
 
-    /// Asks for the block if a frame overlaps with it.
+    /// Asks for the block. A sink that wants them then gains its addresses, and none after an error.
     #[inline]
-    fn touch_block<D: Store>(
+    fn pass_on<D: Store, S: AddressSink>(
         &mut self,
         store: &mut D,
         block: &Block,
         frames: &[Range],
+        found: &mut S,
     ) -> Result<(), Trouble>
         requires order { AreInOrder 0 (2 ^ 64 - 1) frames.now }
-        requires after { AllByRecursion (λ frame. block.now.first < frame.start + frame.len) frames.now }
-        ensures blocks { OnOk result (Asks (filter (meets frames.now) (block.now ∷ [])) (D.holds store.old) self.old self.new
+        requires bounded { block.now.last < ADDRESSES_MAX }
+        ensures addresses { OnOk result (S.wanted ≡ true → Gains (S.gained frames.now) (AreGathered (HasBlock block.now) frames.now
+            block.now.blob block.now.first (block.now.last + 1) (D.holds store.old) self.old) found.old found.new) }
+        ensures none { OnErr result (S.gained frames.now [] found.old found.new) }
+        ensures blocks { OnOk result (Asks (block.now ∷ []) (D.holds store.old) self.old self.new
             (D.reads store.old) (D.reads store.new)) }
-        ensures kept { OnErr result (AsksFirst (filter (meets frames.now) (block.now ∷ [])) (D.holds store.old) self.old self.new) }
+        ensures kept { OnErr result (AsksFirst (block.now ∷ []) (D.holds store.old) self.old self.new) }
         ensures holds { D.holds store.new ≡ D.holds store.old }
         ensures moments { D.moments store.new ≡ D.moments store.old }
         ensures calm { OnOk result (D.faults store.new ≡ D.faults store.old) }
-        ensures cause { IfErr result (IsCause
-            (all_missing self.old.cap (keys_of self.old.entries) (filter (meets frames.now) (block.now ∷ []))) block.now.blob
+        ensures cause { IfErr result (IsCause (all_missing self.old.cap (keys_of self.old.entries) (block.now ∷ [])) block.now.blob
             (IfSome (D.holds store.old) (λ content. IsSpelledIn content block.now → ⊥))
             (D.faults store.old) (D.faults store.new) (D.reads store.old) (D.reads store.new)) }
     {
-        if !is_needed(block, frames) {
-            return Ok(());
+        if !found.wants() {
+            self.ask(store, block)
+        } else if found.copies() {
+            self.copy_block(store, block, found)
+        } else {
+            self.put_block(store, block, frames, found)
         }
-        self.ask(store, block)
     }
 
     /// Asks for the block.
@@ -195,8 +199,7 @@ impl Lists {
         Ok(())
     }
 
-    /// The sink gains the addresses of the block, and none after an error. A block that no frame overlaps with isn't
-    /// asked for.
+    /// The sink gains the addresses of the block, and none after an error.
     #[inline]
     fn put_block<D: Store, S: AddressSink>(
         &mut self,
@@ -207,26 +210,20 @@ impl Lists {
     ) -> Result<(), Trouble>
         requires given { S.copied ≡ false }
         requires order { AreInOrder 0 (2 ^ 64 - 1) frames.now }
-        requires after { AllByRecursion (λ frame. block.now.first < frame.start + frame.len) frames.now }
-        requires span { block.now.first ≤ block.now.last }
         requires bounded { block.now.last < ADDRESSES_MAX }
         ensures addresses { OnOk result (Gains (S.gained frames.now) (AreGathered (HasBlock block.now) frames.now block.now.blob
             block.now.first (block.now.last + 1) (D.holds store.old) self.old) found.old found.new) }
         ensures none { OnErr result (S.gained frames.now [] found.old found.new) }
-        ensures blocks { OnOk result (Asks (filter (meets frames.now) (block.now ∷ [])) (D.holds store.old) self.old self.new
+        ensures blocks { OnOk result (Asks (block.now ∷ []) (D.holds store.old) self.old self.new
             (D.reads store.old) (D.reads store.new)) }
-        ensures kept { OnErr result (AsksFirst (filter (meets frames.now) (block.now ∷ [])) (D.holds store.old) self.old self.new) }
+        ensures kept { OnErr result (AsksFirst (block.now ∷ []) (D.holds store.old) self.old self.new) }
         ensures holds { D.holds store.new ≡ D.holds store.old }
         ensures moments { D.moments store.new ≡ D.moments store.old }
         ensures calm { OnOk result (D.faults store.new ≡ D.faults store.old) }
-        ensures cause { IfErr result (IsCause
-            (all_missing self.old.cap (keys_of self.old.entries) (filter (meets frames.now) (block.now ∷ []))) block.now.blob
+        ensures cause { IfErr result (IsCause (all_missing self.old.cap (keys_of self.old.entries) (block.now ∷ [])) block.now.blob
             (IfSome (D.holds store.old) (λ content. IsSpelledIn content block.now → ⊥))
             (D.faults store.old) (D.faults store.new) (D.reads store.old) (D.reads store.new)) }
     {
-        if !is_needed(block, frames) {
-            return Ok(());
-        }
         let addresses = self.addresses(store, block)?;
         found.gain(&addresses, frames)?;
         Ok(())
@@ -238,31 +235,22 @@ impl Lists {
         &mut self,
         store: &mut D,
         block: &Block,
-        frames: &[Range],
         found: &mut S,
     ) -> Result<(), Trouble>
-        requires given { S.copied ≡ true }
-        requires order { AreInOrder 0 (2 ^ 64 - 1) frames.now }
-        requires after { AllByRecursion (λ frame. block.now.first < frame.start + frame.len) frames.now }
-        requires span { block.now.first ≤ block.now.last }
-        requires bounded { block.now.last < ADDRESSES_MAX }
-        ensures addresses { OnOk result (Gains (S.gained frames.now) (AreGathered (HasBlock block.now) frames.now block.now.blob
-            block.now.first (block.now.last + 1) (D.holds store.old) self.old) found.old found.new) }
-        ensures none { OnErr result (S.gained frames.now [] found.old found.new) }
-        ensures blocks { OnOk result (Asks (filter (meets frames.now) (block.now ∷ [])) (D.holds store.old) self.old self.new
+        requires { S.copied ≡ true }
+        ensures addresses { OnOk result ((frames : List Range) → Gains (S.gained frames) (AreGathered (HasBlock block.now) frames
+            block.now.blob block.now.first (block.now.last + 1) (D.holds store.old) self.old) found.old found.new) }
+        ensures none { OnErr result ((frames : List Range) → S.gained frames [] found.old found.new) }
+        ensures blocks { OnOk result (Asks (block.now ∷ []) (D.holds store.old) self.old self.new
             (D.reads store.old) (D.reads store.new)) }
-        ensures kept { OnErr result (AsksFirst (filter (meets frames.now) (block.now ∷ [])) (D.holds store.old) self.old self.new) }
+        ensures kept { OnErr result (AsksFirst (block.now ∷ []) (D.holds store.old) self.old self.new) }
         ensures holds { D.holds store.new ≡ D.holds store.old }
         ensures moments { D.moments store.new ≡ D.moments store.old }
         ensures calm { OnOk result (D.faults store.new ≡ D.faults store.old) }
-        ensures cause { IfErr result (IsCause
-            (all_missing self.old.cap (keys_of self.old.entries) (filter (meets frames.now) (block.now ∷ []))) block.now.blob
+        ensures cause { IfErr result (IsCause (all_missing self.old.cap (keys_of self.old.entries) (block.now ∷ [])) block.now.blob
             (IfSome (D.holds store.old) (λ content. IsSpelledIn content block.now → ⊥))
             (D.faults store.old) (D.faults store.new) (D.reads store.old) (D.reads store.new)) }
     {
-        if !is_needed(block, frames) {
-            return Ok(());
-        }
         self.ask(store, block)?;
         found.gain_bytes(block, self.first_kept(block))?;
         Ok(())

@@ -1,5 +1,5 @@
 //! The addresses of a term, gathered and not yet decoded.
-ghost use Rattle.std.specs.Prelude.{◌≡◌, ◌+◌, ◌≤◌, All, filter, IfOk};
+ghost use Rattle.std.specs.Prelude.{◌≡◌, ◌+◌, ◌-◌, ◌^◌, ◌≤◌, All, filter, length, min, IfOk};
 ghost use Rattle.std.specs.List.Sorted.{IsStrictlyIncreasing};
 ghost use Rattle.wu_layout.specs.Postings.{is_live};
 ghost use Rattle.wu_base.specs.Ranges.{AreApart};
@@ -29,8 +29,10 @@ impl Model for Gathered {
 }
 
 impl Gathered {
-    /// At least how many addresses there are: a hint for who looks for the term with the fewest.
-    pub fn count_at_most(&self) -> u64 {
+    /// How many addresses there are, or `u64::MAX` where that is less.
+    pub fn count(&self) -> u64
+        ensures { result ≡ min (length self.now) (2 ^ 64 - 1) }
+    {
         self.blocks.count().saturating_add(self.memory.len() as u64)
     }
 

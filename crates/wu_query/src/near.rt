@@ -149,7 +149,7 @@ fn rare_place(needed: &[Bytes], gathered: &[GatheredTerm]) -> Option<usize>
     let mut fewest = u64::MAX;
     let mut total: u64 = 0;
     for i in 0..gathered.len() {
-        let count = gathered[i].at.count_at_most();
+        let count = gathered[i].at.count();
         total = total.saturating_add(count);
         if count < fewest && is_among(needed, &gathered[i].term) {
             rarest = Some(i);

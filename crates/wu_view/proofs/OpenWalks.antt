@@ -14,7 +14,7 @@ use Rattle.wu_tree.specs.FileSystems.{FileSystem, Link, is_directory, is_directo
 use Rattle.wu_tree.specs.FileSystems.{node_of}
 use Rattle.wu_tree.specs.FileSystems.{entries_of, depth}
 use Rattle.wu_tree.specs.Rules.{IsTree}
-use Rattle.wu_view.specs.declared.walks.Met.TheVariants.{Readable, Passable, Closed}
+use Rattle.wu_view.specs.declared.walkers.Met.TheVariants.{Readable, Passable, Closed}
 use Rattle.wu_view.specs.Views.{directory_path, path_of, may, is_granted_node, is_open, is_readable}
 use Rattle.wu_view.specs.Walks.{Found, met_as, met_node, met_at, found_at, if_passable, walked, walked_whole}
 use Rattle.wu_base.proofs.Members.{Has, Has-map, map_has, Has-filter, filter_has, Has-flat_map, flat_map_has}

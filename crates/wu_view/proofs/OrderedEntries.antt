@@ -15,8 +15,8 @@ use Rattle.wu_tree.specs.FileSystems.{FileSystem, entries_of}
 use Rattle.wu_tree.specs.Rules.{IsTree}
 use Rattle.wu_base.proofs.Members.{Has, map_has, Has-flat_map, flat_map_has, all_from_has, all_has}
 use Rattle.wu_base.proofs.SortedLists.{sorted-sorted_once, has-sorted_once, sorted_once_has}
-use Rattle.wu_view.specs.declared.walks.Met.{Met}
-use Rattle.wu_view.specs.declared.walks.Met.TheVariants.{Readable, Passable, Closed}
+use Rattle.wu_view.specs.declared.walkers.Met.{Met}
+use Rattle.wu_view.specs.declared.walkers.Met.TheVariants.{Readable, Passable, Closed}
 use Rattle.wu_view.specs.declared.ordered_walks.Entry.{Entry}
 use Rattle.wu_view.specs.Views.{path_cmp}
 use Rattle.wu_view.specs.Walks.{Found, found_at, if_passable, met_at, walked, walked_whole}

@@ -8,8 +8,8 @@ use Rattle.wu_base.specs.declared.limits.TheConstants.{DEPTH_MAX}
 use Rattle.wu_base.specs.declared.addresses.TheConstants.{ROOT}
 use Rattle.wu_access.specs.declared.UserRec.{UserRec}
 use Rattle.wu_tree.specs.FileSystems.{FileSystem, entries_of}
-use Rattle.wu_view.specs.declared.walks.Met.{Met}
-use Rattle.wu_view.specs.declared.walks.Met.TheVariants.{Readable, Passable, Closed}
+use Rattle.wu_view.specs.declared.walkers.Met.{Met}
+use Rattle.wu_view.specs.declared.walkers.Met.TheVariants.{Readable, Passable, Closed}
 use Rattle.wu_view.specs.declared.ordered_walks.Entry.{Entry}
 use Rattle.wu_view.specs.Views.{path_cmp}
 use Rattle.wu_view.specs.Walks.{Found, if_passable, met_at}

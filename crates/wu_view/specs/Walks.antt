@@ -11,8 +11,13 @@ use Rattle.wu_tree.specs.declared.events.Kind.{Kind}
 use Rattle.wu_tree.specs.declared.events.Kind.TheVariants.{Directory, File}
 use Rattle.wu_tree.specs.declared.events.Node.{Node}
 use Rattle.wu_tree.specs.FileSystems.{FileSystem, acl_of, node_of, entries_of}
-use Rattle.wu_view.specs.declared.walks.Met.{Met}
-use Rattle.wu_view.specs.declared.walks.Met.TheVariants.{Readable, Passable, Closed}
+use Rattle.wu_view.specs.declared.walkers.Met.{Met}
+use Rattle.wu_view.specs.declared.walkers.Met.TheVariants.{Readable, Passable, Closed}
+
+-- a user who walks through a tree
+pub record UserInTree : Type 0 where
+  pub tree : FileSystem
+  pub user : UserRec
 
 -- the number of a file, and one of its paths
 abbrev pub Found : Type 0

@@ -6,20 +6,21 @@
 ghost use Rattle.std.specs.Prelude.{◌≡◌, ◌↔◌, ℕ, true, IfOk, IsTrue, List, map};
 ghost use Rattle.std.specs.List.{Contains};
 ghost use Rattle.std.specs.List.Sorted.{IsStrictlySortedBy};
-ghost use Rattle.std.specs.Ordering.{nat_cmp};
-ghost use Rattle.wu_view.specs.Views.{Grants, IsOpenPath, is_readable, least_path, open_paths, path_cmp, user_with, view_of};
+ghost use Rattle.wu_view.specs.Views.{Grants, IsOpenPath, is_readable, least_path, open_paths, path_cmp, view_of};
 ghost use Rattle.wu_access.specs.declared.UserRec.{UserRec};
-ghost use Rattle.wu_tree.specs.FileSystems.{groups_of, is_file};
+ghost use Rattle.wu_tree.specs.FileSystems.{is_file};
 
 mod groups;
 mod links;
 mod ordered_walks;
 mod views;
+mod walkers;
 mod walks;
 
 use std::alloc::Global;
 pub use views::View;
-use wu_access::{UserRec, Want, check_is_decided_by_cases};
+use walkers::Walker;
+use wu_access::{Want, check_is_decided_by_cases};
 use wu_base::{Bytes, Ino, NoMemory, Sequence, Uid, sorted_once};
 use wu_tree::Tree;
 
@@ -46,8 +47,8 @@ pub fn searchable(alloc: Global, tree: &Tree, uid: Uid) -> Result<Vec<Seen>, NoM
     ensures by_least_path { IfOk result (λ view. IsStrictlySortedBy path_cmp (map least_path view.items)) }
 {
     tree.keeps_the_rules();
-    let user = user_of(alloc, tree, uid)?;
-    let found = walks::open_links(alloc, tree, &user)?;
+    let walker = Walker::new(alloc, tree, uid)?;
+    let found = walks::open_links(alloc, &walker)?;
     let files = groups::by_file(alloc, found)?;
     let seen = groups::seen(alloc, files)?;
     let view = sorted_once(seen);
@@ -65,19 +66,10 @@ pub fn view_of(alloc: Global, tree: &Tree, uid: Uid) -> Result<View, NoMemory>
     ensures { IfOk result (λ view. view ≡ view_of tree.now uid) }
 {
     tree.keeps_the_rules();
-    let user = user_of(alloc, tree, uid)?;
-    let links = ordered_walks::open_links_in_order(alloc, tree, &user)?;
+    let walker = Walker::new(alloc, tree, uid)?;
+    let links = ordered_walks::open_links_in_order(alloc, &walker)?;
     let kept = View::of_links(alloc, links)?;
     Ok(kept)
-}
-
-/// The user of that number with her groups; one who was never given has none.
-fn user_of(alloc: Global, tree: &Tree, uid: Uid) -> Result<UserRec, NoMemory>
-    ensures user { IfOk result (λ user. user ≡ user_with uid (groups_of tree.now uid)) }
-    ensures ascend { IfOk result (λ user. IsStrictlySortedBy nat_cmp user.groups) }
-{
-    let groups = Sequence::from(Vec::from_slice(alloc, tree.groups_of(uid))?);
-    Ok(UserRec { uid, groups })
 }
 
 /// A law: the open paths of a file are those that lead to it from the root by names of links, through

@@ -2,19 +2,15 @@
 //! on with `/`, so the entries of a directory are taken in the order of their names, where the name
 //! of a directory ends in `/`.
 ghost use Rattle.std.specs.Prelude.{◌≡◌, ◌++◌, ◌<◌, length, OnOk, IfOk, map};
-ghost use Rattle.std.specs.Ordering.{nat_cmp};
-ghost use Rattle.std.specs.List.Sorted.{IsStrictlySortedBy};
 ghost use Rattle.wu_view.specs.LinkLists.{Extends, path_at};
 ghost use Rattle.wu_view.specs.OrderedWalks.{directory_entry, entries_in_order, file_entry};
 ghost use Rattle.wu_view.specs.OrderedWalks.{open_entries, ordered, ordered_whole};
 
 use crate::links::LinkList;
-use crate::walks::{Met, meet};
+use crate::walkers::{Met, Walker};
 use std::alloc::Global;
 use std::collections::BTreeMap;
-use wu_access::UserRec;
 use wu_base::{Bytes, DEPTH_MAX, Ino, NoMemory, ROOT, sorted_once};
-use wu_tree::Tree;
 
 /// An entry of a directory that is a file that grants the user read, or a directory that grants her
 /// execute.
@@ -28,17 +24,12 @@ pub(crate) struct Entry {
 
 /// The links to files that grant the user read, of which each directory up to the root grants her
 /// execute, in the order of their paths.
-pub(crate) fn open_links_in_order(
-    alloc: Global,
-    tree: &Tree,
-    user: &UserRec,
-) -> Result<LinkList, NoMemory>
-    requires { IsStrictlySortedBy nat_cmp user.now.groups }
-    ensures { IfOk result (λ list. list.links ≡ ordered_whole tree.now user.now) }
+pub(crate) fn open_links_in_order(alloc: Global, walker: &Walker<'_>) -> Result<LinkList, NoMemory>
+    ensures { IfOk result (λ list. list.links ≡ ordered_whole walker.now.tree walker.now.user) }
 {
     let mut list = LinkList::new(alloc);
-    if let Met::Passable = meet(tree, user, ROOT) {
-        walk(alloc, tree, user, DEPTH_MAX, ROOT, 0, &mut list)?;
+    if let Met::Passable = walker.meet(ROOT) {
+        walk(alloc, walker, DEPTH_MAX, ROOT, 0, &mut list)?;
     }
     Ok(list)
 }
@@ -47,24 +38,22 @@ pub(crate) fn open_links_in_order(
 /// directories of the list, and below it in at most `depth` directories one below the other.
 fn walk(
     alloc: Global,
-    tree: &Tree,
-    user: &UserRec,
+    walker: &Walker<'_>,
     depth: usize,
     directory: Ino,
     place: usize,
     list: &mut LinkList,
 ) -> Result<(), NoMemory>
-    requires groups { IsStrictlySortedBy nat_cmp user.now.groups }
-    requires place { place < length list.old.directories }
+    requires { place < length list.old.directories }
     ensures links { OnOk result (list.new.links
         ≡ list.old.links
-        ++ ordered tree.now user.now depth directory (path_at list.old.directories place)) }
+        ++ ordered walker.now.tree walker.now.user depth directory (path_at list.old.directories place)) }
     ensures directories { OnOk result (Extends list.old.directories list.new.directories) }
 {
     if depth == 0 {
         return Ok(());
     }
-    for entry in entries_in_order(alloc, tree, user, directory)? {
+    for entry in entries_in_order(alloc, walker, directory)? {
         let Entry {
             name,
             is_directory,
@@ -75,7 +64,7 @@ fn walk(
             continue;
         }
         let below = list.add_directory(place, name)?;
-        walk(alloc, tree, user, depth - 1, ino, below, list)?;
+        walk(alloc, walker, depth - 1, ino, below, list)?;
     }
     Ok(())
 }
@@ -84,18 +73,16 @@ fn walk(
 /// her execute, in the order of the paths that begin with them.
 fn entries_in_order(
     alloc: Global,
-    tree: &Tree,
-    user: &UserRec,
+    walker: &Walker<'_>,
     directory: Ino,
 ) -> Result<Vec<Entry>, NoMemory>
-    requires { IsStrictlySortedBy nat_cmp user.now.groups }
     ensures { IfOk result (λ entries.
-        entries.items ≡ entries_in_order tree.now user.now directory) }
+        entries.items ≡ entries_in_order walker.now.tree walker.now.user directory) }
 {
-    let Some(names) = tree.entries(directory) else {
+    let Some(names) = walker.entries(directory) else {
         return Ok(Vec::new(alloc));
     };
-    let entries = open_entries(alloc, tree, user, names)?;
+    let entries = open_entries(alloc, walker, names)?;
     Ok(sorted_once(entries))
 }
 
@@ -103,17 +90,15 @@ fn entries_in_order(
 /// grant her execute.
 fn open_entries(
     alloc: Global,
-    tree: &Tree,
-    user: &UserRec,
+    walker: &Walker<'_>,
     names: &BTreeMap<Vec<u8>, Ino>,
 ) -> Result<Vec<Entry>, NoMemory>
-    requires { IsStrictlySortedBy nat_cmp user.now.groups }
     ensures { IfOk result (λ entries. entries.items
-        ≡ open_entries tree.now user.now (map (λ e. (e.0.items, e.1)) names.now.entries)) }
+        ≡ open_entries walker.now.tree walker.now.user (map (λ e. (e.0.items, e.1)) names.now.entries)) }
 {
     let mut entries = Vec::new(alloc);
     for (name, child) in names {
-        match meet(tree, user, *child) {
+        match walker.meet(*child) {
             Met::Readable => entries.push(file_entry(alloc, name.as_slice(), *child)?)?,
             Met::Passable => entries.push(directory_entry(alloc, name.as_slice(), *child)?)?,
             Met::Closed => {}

@@ -1,39 +1,20 @@
 //! The walk from the root through the directories that a user may enter.
-ghost use Rattle.std.specs.Prelude.{◌≡◌, ◌∷◌, ◌++◌, OnOk, IfOk, option_copied};
-ghost use Rattle.std.specs.Ordering.{nat_cmp};
-ghost use Rattle.std.specs.List.Sorted.{IsStrictlySortedBy};
-ghost use Rattle.wu_view.specs.Walks.{met_at, met_node, walked, walked_whole};
+ghost use Rattle.std.specs.Prelude.{◌≡◌, ◌∷◌, ◌++◌, OnOk, IfOk};
+ghost use Rattle.wu_view.specs.Walks.{walked, walked_whole};
 
+use crate::walkers::{Met, Walker};
 use std::alloc::Global;
-use wu_access::{Acl, UserRec, Want, allows};
 use wu_base::{Bytes, DEPTH_MAX, Ino, NoMemory, ROOT};
-use wu_tree::{Kind, Node, Tree};
-
-/// What a user meets at a node.
-#[derive(Clone, Copy)]
-pub(crate) enum Met {
-    /// A file that grants her read.
-    Readable,
-    /// A directory that grants her execute.
-    Passable,
-    /// A node that denies her this, or none.
-    Closed,
-}
 
 /// The links to files that grant the user read, of which each directory up to the root grants her execute:
 /// the number and the path of each.
-pub(crate) fn open_links(
-    alloc: Global,
-    tree: &Tree,
-    user: &UserRec,
-) -> Result<Vec<(Ino, Bytes)>, NoMemory>
-    requires { IsStrictlySortedBy nat_cmp user.now.groups }
-    ensures { IfOk result (λ found. found.items ≡ walked_whole tree.now user.now) }
+pub(crate) fn open_links(alloc: Global, walker: &Walker<'_>) -> Result<Vec<(Ino, Bytes)>, NoMemory>
+    ensures { IfOk result (λ found. found.items ≡ walked_whole walker.now.tree walker.now.user) }
 {
     let mut files = Vec::new(alloc);
-    if let Met::Passable = meet(tree, user, ROOT) {
+    if let Met::Passable = walker.meet(ROOT) {
         let mut path = Vec::new(alloc);
-        walk(alloc, tree, user, DEPTH_MAX, ROOT, &mut path, &mut files)?;
+        walk(alloc, walker, DEPTH_MAX, ROOT, &mut path, &mut files)?;
     }
     Ok(files)
 }
@@ -42,66 +23,36 @@ pub(crate) fn open_links(
 /// directories one below the other. The path is afterwards as it was, unless there was no memory.
 fn walk(
     alloc: Global,
-    tree: &Tree,
-    user: &UserRec,
+    walker: &Walker<'_>,
     depth: usize,
     directory: Ino,
     path: &mut Vec<u8>,
     files: &mut Vec<(Ino, Bytes)>,
 ) -> Result<(), NoMemory>
-    requires { IsStrictlySortedBy nat_cmp user.now.groups }
-    ensures files { OnOk result (files.new.items ≡ files.old.items ++ walked tree.now user.now depth directory path.old.items) }
+    ensures files { OnOk result (files.new.items ≡ files.old.items ++ walked walker.now.tree walker.now.user depth directory path.old.items) }
     ensures path { OnOk result (path.new.items ≡ path.old.items) }
 {
     if depth == 0 {
         return Ok(());
     }
-    let Some(names) = tree.entries(directory) else {
+    let Some(names) = walker.entries(directory) else {
         return Ok(());
     };
     for (name, child) in names {
-        match meet(tree, user, *child) {
+        match walker.meet(*child) {
             Met::Readable => {
                 files.push((*child, joined(alloc, path.as_slice(), name.as_slice())?))?
             }
             Met::Passable => {
                 let length = path.len();
                 descend(path, name.as_slice())?;
-                walk(alloc, tree, user, depth - 1, *child, path, files)?;
+                walk(alloc, walker, depth - 1, *child, path, files)?;
                 path.truncate(length);
             }
             Met::Closed => {}
         }
     }
     Ok(())
-}
-
-/// What the user meets at the node of that number.
-pub(crate) fn meet(tree: &Tree, user: &UserRec, ino: Ino) -> Met
-    requires { IsStrictlySortedBy nat_cmp user.now.groups }
-    ensures { result ≡ met_at tree.now user.now ino }
-{
-    match tree.node(ino) {
-        Some(node) => meet_node(user, &node, tree.acl_of(ino)),
-        None => Met::Closed,
-    }
-}
-
-/// What the user meets at that node, which has that access list or none.
-#[inline(always)]
-fn meet_node(user: &UserRec, node: &Node, acl: Option<&Acl>) -> Met
-    requires { IsStrictlySortedBy nat_cmp user.now.groups }
-    ensures { result ≡ met_node user.now (option_copied acl.entry) (Some node.now) }
-{
-    let (want, met) = match node.kind {
-        Kind::File => (Want::Read, Met::Readable),
-        Kind::Directory => (Want::Execute, Met::Passable),
-    };
-    if allows(user, &node.perm, acl, want) {
-        met
-    } else {
-        Met::Closed
-    }
 }
 
 /// Makes of a directory's path that of an entry.

@@ -157,7 +157,7 @@ pub fn gather(
     }
     let found = gathered.within(alloc, &near)?;
     let addresses = numbers_text(alloc, found.as_slice())?;
-    let count = gathered.count_at_most();
+    let count = gathered.count();
     Ok(format!(in alloc; "{addresses} of {count}")?)
 }
 

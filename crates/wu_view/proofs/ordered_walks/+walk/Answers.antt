@@ -14,7 +14,7 @@ pub returns-then-depth-eq0-clause-links : goal.returns-then-depth-eq0-clause-lin
 returns-then-depth-eq0-clause-links t c =
     sym (append-nil c.args.list.now.links)
     ∙ ap (λ (l : List Found). c.args.list.now.links ++ l)
-    (sym (ordered-zero c.args.tree.now c.args.user.now c.args.depth c.args.directory
+    (sym (ordered-zero c.args.walker.now.tree c.args.walker.now.user c.args.depth c.args.directory
     (path_at c.args.list.now.directories c.args.place) c.if-depth-eq0.true))
 
 pub returns-clause-links : goal.returns-clause-links
@@ -30,8 +30,8 @@ returns-clause-links t c =
     ∙ ap
     (λ (l : List Entry). c.args.list.now.links
     ++ flat_map
-    (found_by (ordered c.args.tree.now c.args.user.now (c.args.depth - 1)) (path_at c.args.list.now.directories c.args.place)) l)
+    (found_by (ordered c.args.walker.now.tree c.args.walker.now.user (c.args.depth - 1)) (path_at c.args.list.now.directories c.args.place)) l)
     (e ∙ c.in_ok-entry-items.ensures)
     ∙ ap (λ (l : List Found). c.args.list.now.links ++ l)
-    (sym (ordered-suc c.args.tree.now c.args.user.now c.args.depth c.args.directory
+    (sym (ordered-suc c.args.walker.now.tree c.args.walker.now.user c.args.depth c.args.directory
     (path_at c.args.list.now.directories c.args.place) z))

@@ -10,6 +10,6 @@ decreases-walk l = l.depth
 abbrev pub invariant-loop-entry : goal.invariant-loop-entry
 invariant-loop-entry l = record {
   links : l.list.links ≡ l.fn.list.links
-      ++ flat_map (found_by (ordered l.tree l.user (l.depth - 1)) (path_at l.fn.list.directories l.place)) l.yielded;
+      ++ flat_map (found_by (ordered l.walker.tree l.walker.user (l.depth - 1)) (path_at l.fn.list.directories l.place)) l.yielded;
   directories : Extends l.fn.list.directories l.list.directories;
 }

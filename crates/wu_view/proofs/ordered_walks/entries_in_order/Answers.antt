@@ -11,12 +11,12 @@ sorted_once-requires c = record { exact = entry_exact }
 
 pub returns-in_default : goal.returns-in_default
 returns-in_default c =
-    let h : entries_of c.args.tree.now.links c.args.directory ≡ [] = c.in_default.ensures in
+    let h : entries_of c.args.walker.now.tree.links c.args.directory ≡ [] = c.in_default.ensures in
     c.new.ensures.items
-    ∙ ap (λ (l : List (List ℕ × ℕ)). sorted_once entry_cmp (open_entries c.args.tree.now c.args.user.now l)) (sym h)
+    ∙ ap (λ (l : List (List ℕ × ℕ)). sorted_once entry_cmp (open_entries c.args.walker.now.tree c.args.walker.now.user l)) (sym h)
 
 pub returns : goal.returns
 returns c =
     c.sorted_once.ensures.items
     ∙ ap (λ (l : List Entry). sorted_once entry_cmp l)
-    (c.in_ok-entries.ensures ∙ ap (open_entries c.args.tree.now c.args.user.now) c.in-Some.ensures)
+    (c.in_ok-entries.ensures ∙ ap (open_entries c.args.walker.now.tree c.args.walker.now.user) c.in-Some.ensures)

@@ -11,4 +11,4 @@ returns c =
     let e : map deref_pair c.loop-name.yielded ≡ c.args.names.now.entries = search (rules, iter_end) in
     let s : map by_reference c.loop-name.yielded ≡ map by_value c.args.names.now.entries = sym (shown c.loop-name.yielded)
     ∙ ap (map by_value) e in
-    c.loop-name.invariant ∙ ap (open_entries c.args.tree.now c.args.user.now) s
+    c.loop-name.invariant ∙ ap (open_entries c.args.walker.now.tree c.args.walker.now.user) s

@@ -5,4 +5,4 @@ use Rattle.wu_view.proofs.ordered_walks.open_entries.Given as goal
 
 abbrev pub invariant-loop-name : goal.invariant-loop-name
 invariant-loop-name l =
-    l.entries.items ≡ open_entries l.tree l.user (map (λ entry. (entry.0.now.items, entry.1.now)) l.yielded)
+    l.entries.items ≡ open_entries l.walker.tree l.walker.user (map (λ entry. (entry.0.now.items, entry.1.now)) l.yielded)

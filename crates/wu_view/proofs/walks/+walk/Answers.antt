@@ -10,25 +10,25 @@ use Rattle.wu_view.proofs.walks.+walk.Goals as goal
 
 pub returns-then-depth-eq0-clause-files : goal.returns-then-depth-eq0-clause-files
 returns-then-depth-eq0-clause-files t c =
-    let n : walked c.args.tree.now c.args.user.now c.args.depth c.args.directory c.args.path.now.items
-    ≡ [] = walked-zero c.args.tree.now c.args.user.now c.args.depth c.args.directory c.args.path.now.items c.if-depth-eq0.true in
+    let n : walked c.args.walker.now.tree c.args.walker.now.user c.args.depth c.args.directory c.args.path.now.items
+    ≡ [] = walked-zero c.args.walker.now.tree c.args.walker.now.user c.args.depth c.args.directory c.args.path.now.items c.if-depth-eq0.true in
     sym (append-nil c.args.files.now.items) ∙ ap (λ (l : List Found). c.args.files.now.items ++ l) (sym n)
 
 pub returns-in_default-clause-files : goal.returns-in_default-clause-files
 returns-in_default-clause-files t c =
-    let h : entries_of c.args.tree.now.links c.args.directory ≡ [] = c.in_default.ensures in
-    let n : walked c.args.tree.now c.args.user.now c.args.depth c.args.directory c.args.path.now.items
-    ≡ [] = walked-none c.args.tree.now c.args.user.now c.args.depth c.args.directory c.args.path.now.items h in
+    let h : entries_of c.args.walker.now.tree.links c.args.directory ≡ [] = c.in_default.ensures in
+    let n : walked c.args.walker.now.tree c.args.walker.now.user c.args.depth c.args.directory c.args.path.now.items
+    ≡ [] = walked-none c.args.walker.now.tree c.args.walker.now.user c.args.depth c.args.directory c.args.path.now.items h in
     sym (append-nil c.args.files.now.items) ∙ ap (λ (l : List Found). c.args.files.now.items ++ l) (sym n)
 
 pub returns-clause-files : goal.returns-clause-files
 returns-clause-files t c =
     let e : map deref_pair c.loop-name.yielded ≡ c.in-Some.names.now.entries = search (rules, iter_end) in
-    let h : map by_value c.in-Some.names.now.entries ≡ entries_of c.args.tree.now.links c.args.directory = c.in-Some.ensures in
-    let s : map by_reference c.loop-name.yielded ≡ entries_of c.args.tree.now.links c.args.directory = sym (shown c.loop-name.yielded)
+    let h : map by_value c.in-Some.names.now.entries ≡ entries_of c.args.walker.now.tree.links c.args.directory = c.in-Some.ensures in
+    let s : map by_reference c.loop-name.yielded ≡ entries_of c.args.walker.now.tree.links c.args.directory = sym (shown c.loop-name.yielded)
     ∙ ap (map by_value) e ∙ h in
     let l : 0 < c.args.depth = omega arith in
     c.loop-name.invariant.files
     ∙ ap (λ (l : List Found). c.args.files.now.items ++ l)
-    (ap (found_in c.args.tree.now c.args.user.now (walked c.args.tree.now c.args.user.now (c.args.depth - 1)) c.args.path.now.items) s
-    ∙ sym (walked-suc c.args.tree.now c.args.user.now c.args.depth c.args.directory c.args.path.now.items l))
+    (ap (found_in c.args.walker.now.tree c.args.walker.now.user (walked c.args.walker.now.tree c.args.walker.now.user (c.args.depth - 1)) c.args.path.now.items) s
+    ∙ sym (walked-suc c.args.walker.now.tree c.args.walker.now.user c.args.depth c.args.directory c.args.path.now.items l))

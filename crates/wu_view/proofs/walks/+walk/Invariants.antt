@@ -10,6 +10,6 @@ abbrev pub invariant-loop-name : goal.invariant-loop-name
 invariant-loop-name l = record {
   path : l.path.items ≡ l.fn.path.items;
   files : l.files.items ≡ l.fn.files.items
-      ++ found_in l.tree l.user (walked l.tree l.user (l.depth - 1)) l.fn.path.items
+      ++ found_in l.walker.tree l.walker.user (walked l.walker.tree l.walker.user (l.depth - 1)) l.fn.path.items
       (map (λ entry. (entry.0.now.items, entry.1.now)) l.yielded);
 }

@@ -1,46 +1,19 @@
-use Rattle.std.proofs.Common.{◌-◌, ◌^◌, ◌≡◌, ◌+◌, List, [], ◌∷◌, true, false, sym, ◌∙◌, subst, arith, rules}
+use Rattle.std.proofs.Common.{◌-◌, ◌^◌, ◌≡◌, ◌+◌, [], ◌∷◌, arith}
 use Rattle.wu_base.proofs.Results.{on_err}
-use Rattle.wu_lists.specs.declared.blocks.Block.{Block}
-use Rattle.wu_lists.specs.Keeping.{Asks, AsksFirst}
 use Rattle.wu_lists.proofs.Ascending.{ascend-higher, ascend-lower}
-use Rattle.wu_lists.proofs.Asking.{asks-none, first-all}
-use Rattle.wu_lists.proofs.Fetches.{gathered-none, gathered-some, needed-nothing, needed-one}
+use Rattle.wu_lists.proofs.Asking.{first-all}
+use Rattle.wu_lists.proofs.Fetches.{gathered-some}
 use Rattle.wu_lists.proofs.lists.Lists.put_block.Goals as goal
-
-pub returns-then-not-is_needed-clause-addresses : goal.returns-then-not-is_needed-clause-addresses
-returns-then-not-is_needed-clause-addresses g c =
-    let missed : c.is_needed.result ≡ false = search rules in
-    gathered-none _ (g.S.AddressSink.gained c.args.frames.now) c.args.block.now c.args.frames.now (g.D.Store.holds c.args.store.now)
-    c.args.self.now c.args.found.now (g.met.S.AddressSink.none c.args.frames.now c.args.found.now) c.requires.span
-    (sym c.is_needed.ensures ∙ missed)
-
-pub returns-then-not-is_needed-clause-blocks : goal.returns-then-not-is_needed-clause-blocks
-returns-then-not-is_needed-clause-blocks g c =
-    let missed : c.is_needed.result ≡ false = search rules in
-    subst (λ (bs : List Block). Asks bs (g.D.Store.holds c.args.store.now) c.args.self.now c.args.self.now
-    (g.D.Store.reads c.args.store.now) (g.D.Store.reads c.args.store.now))
-    (sym (needed-nothing c.args.frames.now c.args.block.now (sym c.is_needed.ensures ∙ missed)))
-    (asks-none (g.D.Store.holds c.args.store.now) c.args.self.now (g.D.Store.reads c.args.store.now))
 
 pub returns-in_err-addresses-clause-none : goal.returns-in_err-addresses-clause-none
 returns-in_err-addresses-clause-none g c =
     on_err c.from_residual.result (g.met.S.AddressSink.none c.args.frames.now c.args.found.now)
 
-pub returns-in_err-addresses-clause-kept : goal.returns-in_err-addresses-clause-kept
-returns-in_err-addresses-clause-kept g c =
-    let needed : c.is_needed.result ≡ true = search rules in
-    on_err c.from_residual.result
-    (subst (λ (bs : List Block). AsksFirst bs (g.D.Store.holds c.args.store.now) c.args.self.now c.addresses.new.self)
-    (sym (needed-one c.args.frames.now c.args.block.now (sym c.is_needed.ensures ∙ needed))) c.in_err-addresses.ensures.kept)
-
 pub returns-in_err-gain-clause-kept : goal.returns-in_err-gain-clause-kept
 returns-in_err-gain-clause-kept g c =
-    let needed : c.is_needed.result ≡ true = search rules in
     on_err c.from_residual-in_err-gain.result
-    (subst (λ (bs : List Block). AsksFirst bs (g.D.Store.holds c.args.store.now) c.args.self.now c.addresses.new.self)
-    (sym (needed-one c.args.frames.now c.args.block.now (sym c.is_needed.ensures ∙ needed)))
     (first-all (g.D.Store.holds c.args.store.now) c.args.self.now c.addresses.new.self (g.D.Store.reads c.args.store.now)
-    (g.D.Store.reads c.addresses.new.store) (c.args.block.now ∷ []) c.in_ok-addresses.ensures.blocks))
+    (g.D.Store.reads c.addresses.new.store) (c.args.block.now ∷ []) c.in_ok-addresses.ensures.blocks)
 
 pub gain-requires-clause-ascend : goal.gain-requires-clause-ascend
 gain-requires-clause-ascend g c =
@@ -56,10 +29,3 @@ returns-clause-addresses g c =
     (rw c.deref.ensures.value at c.in_ok-gain.ensures.ok) c.requires.given in
     gathered-some _ (g.S.AddressSink.gained frames) c.args.block.now frames (g.D.Store.holds c.args.store.now) c.args.self.now c.args.found.now
     c.gain.new.self c.in_ok-addresses.addresses.items c.in_ok-addresses.ensures.ascend c.in_ok-addresses.ensures.told gained
-
-pub returns-clause-blocks : goal.returns-clause-blocks
-returns-clause-blocks g c =
-    let needed : c.is_needed.result ≡ true = search rules in
-    subst (λ (bs : List Block). Asks bs (g.D.Store.holds c.args.store.now) c.args.self.now c.addresses.new.self
-    (g.D.Store.reads c.args.store.now) (g.D.Store.reads c.addresses.new.store))
-    (sym (needed-one c.args.frames.now c.args.block.now (sym c.is_needed.ensures ∙ needed))) c.in_ok-addresses.ensures.blocks
