@@ -32,10 +32,10 @@ pub record ReadsForQuestion {D T : Type 0} (Store : stores.Ghosts D) (uid : ℕ)
   pub permitted : (s : State) → Stands before (Store.holds old) s
       → ReadsSuch (AreReadForQuery s uid question) (Store.reads old) (Store.reads new)
 
--- A blob is called damaged only where this query of hers read of it and needs it: a part of which it read a block of the terms that her
--- frames need, or, where the question has lines shown, the text of a file of hers of which it read bytes, and not only asked the size;
--- where frames, postings and records are those of a state, one of which a line is to be shown. Over whatever the store held when the
--- engine was opened, it was broken then.
+-- A blob is called damaged only where the engine had ended so, or where this query of hers read of it and needs it: a part of which it
+-- read a block of the terms that her frames need, or, where the question shows lines or is an export, the text of a file of hers of which
+-- it read bytes, and not only asked the size; where frames, postings and records are those of a state, the text of a file that is exported
+-- or of which a line is to be shown. Over whatever the store held when the engine was opened, it was broken then.
 pub record BlamesAsked {D T : Type 0} (Store : stores.Ghosts D) (uid : ℕ) (question : Question) (before : Engine) (old new : D)
     (result : Result T Trouble) : Type 0 where
   pub damaged : (blob : ℕ) → result ≡ Err (Damaged blob) → (before.ended ≡ Some (Damaged blob))
