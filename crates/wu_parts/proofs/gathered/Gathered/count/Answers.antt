@@ -9,5 +9,5 @@ returns c =
       c.len.ensures,
       length-append c.self.inside.blocks c.self.inside.memory,
       ap length c.self.view_is,
-      c.saturating_add-self-blocks.ensures,
+      c.saturating_add.ensures,
     )
