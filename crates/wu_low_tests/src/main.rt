@@ -1,15 +1,24 @@
-//! Compares the answers of public calls of the lower crates with those of the table on standard input, and those of long and random runs
-//! with plain ones.
+//! Compares the answers of public calls of the lower crates, and of those on region expressions, cursors and rankings, with those of the
+//! table on standard input, and those of long and random runs with plain ones.
 #![tactic(auto)]
 
 mod access;
+mod cursors;
 mod demos;
+mod expressions;
 mod extents;
 mod fields;
+mod fixtures;
 mod lists;
 mod logarithms;
 mod numbers;
 mod outside;
+mod plain;
+mod pruned;
+mod questions;
+mod rankings;
+mod regions;
+mod scattered;
 mod snips;
 mod terms;
 mod tokens;
@@ -50,6 +59,11 @@ where
         "wu_log2" => logarithms::answer(alloc, call, arguments),
         "wu_snip" => snips::answer(alloc, call, arguments),
         "wu_demo" => demos::answer(alloc, call, arguments),
+        "wu_gcl" => expressions::answer(alloc, call, arguments),
+        "wu_solve" => regions::answer(alloc, call, arguments),
+        "wu_cursor" => cursors::answer(alloc, call, arguments),
+        "wu_rank" => rankings::answer(alloc, call, arguments),
+        "wu_ask" => questions::answer(alloc, call, arguments),
         _ => outside::answer(files, alloc, library, call, arguments),
     }
 }
