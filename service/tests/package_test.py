@@ -90,6 +90,19 @@ def used(root: Root, score: Score) -> None:
     score.check(service.wait() == 0, "the end of the service")
 
 
+def upgraded(root: Root, score: Score) -> None:
+    """Installs it over itself where units are disabled, which they stay."""
+    (root.folder / "run/systemd/system").mkdir(parents=True, exist_ok=True)
+    stub = root.folder / "usr/local/bin/systemctl"
+    stub.write_text('#!/bin/sh\necho "$@" >>/systemctl.said\ntest "$2" != is-enabled\n')
+    stub.chmod(0o755)
+    status, told = root.run("dpkg", "-i", "/wumpus.deb")
+    said = (root.folder / "systemctl.said").read_text().splitlines()
+    begun = [line for line in said if line.startswith(("enable", "start"))]
+    score.check(status == 0 and begun == [], f"an upgrade begins {begun}: {told}")
+    stub.unlink()
+
+
 def removed(root: Root, score: Score) -> None:
     """Removes the package, and purges it."""
     status, told = root.run("dpkg", "-r", "wumpus")
@@ -116,6 +129,7 @@ def main() -> int:
     try:
         installed(root, Path(given.package), score)
         used(root, score)
+        upgraded(root, score)
         removed(root, score)
     finally:
         subprocess.run(["umount", process_folder])

@@ -29,7 +29,8 @@ class Bounds:
     idle_seconds: float = 60.0
     age_seconds: float = 600.0
     punished_seconds: float = 60.0
-    faults: int = 16  # lines that are no queries, of one connection
+    suspected_seconds: float = 600.0
+    faults: int = 16  # lines of one connection that weren't asked
 
 
 @dataclass(slots=True)
@@ -42,7 +43,7 @@ class Client:
     moved: float  # when a byte came or went
     received: bytearray = field(default_factory=bytearray)
     sending: bytearray = field(default_factory=bytearray)
-    faults: int = 0  # lines that were no queries
+    faults: int = 0  # lines that weren't asked
     asking: bool = False
     ending: bool = False
     ended: bool = False
@@ -73,6 +74,7 @@ class Clients:
         self.put = put
         self.all: dict[int, Client] = {}
         self.punished: dict[int, float] = {}  # users, and until when
+        self.suspected: dict[int, float] = {}  # in their queries the program ended
         self.are_answered = False  # from the end of the mirror's first turn on
         listening.setblocking(False)
         selector.register(listening, selectors.EVENT_READ, self._accept)
@@ -87,6 +89,8 @@ class Clients:
         except OSError:
             connection.close()
             return
+        if len(self.all) >= self.bounds.connections:
+            self._make_room()
         refusal = self._refusal(peer)
         connection.setblocking(False)
         now = time.monotonic()
@@ -96,6 +100,15 @@ class Clients:
             client.ending = True
             client.sending += refusal
         self._go_on(client)
+
+    def _make_room(self) -> None:
+        """Ends the oldest connection for which nothing is asked.
+
+        Numbers cost a user nothing who has a range of them (subuid), so they bound no user alone.
+        """
+        silent = [one for one in self.all.values() if not one.asking]
+        if silent:
+            self.close(min(silent, key=lambda one: one.since))
 
     def _refusal(self, peer: Peer) -> bytes:
         """Why nothing is answered on a new connection; empty where something is."""
@@ -158,17 +171,21 @@ class Clients:
         user = client.peer.user
         line = queries.line_for(user, asked)
         if line is None:
-            client.sending += queries.NOT_A_QUERY
-            client.faults += 1
-            client.ending = client.faults >= self.bounds.faults
+            self._refuse(client, queries.NOT_A_QUERY)
         elif not self.are_answered:
-            client.sending += queries.NOT_READY
+            self._refuse(client, queries.NOT_READY)
         elif self.punished.get(user, 0.0) > time.monotonic():
-            client.sending += queries.TOO_SLOW
+            self._refuse(client, queries.TOO_SLOW)
         else:
             client.asking = True
             query = Query(client, line, time.monotonic())
             self.put(query)
+
+    def _refuse(self, client: Client, refusal: bytes) -> None:
+        """Says why a line isn't asked; after some of them the connection ends."""
+        client.sending += refusal
+        client.faults += 1
+        client.ending = client.faults >= self.bounds.faults
 
     def answer(self, client: Client, reply: bytes) -> None:
         """Sends a client its reply, and then takes its next query."""
@@ -223,6 +240,13 @@ class Clients:
             self.selector.unregister(client.socket)
         del self.all[descriptor]
         client.socket.close()
+
+    def suspect(self, user: int) -> None:
+        """The program ended in the midst of a query of this user: the second time she waits."""
+        now = time.monotonic()
+        if self.suspected.get(user, -1.0) > now:
+            self.punish(user)
+        self.suspected[user] = now + self.bounds.suspected_seconds
 
     def punish(self, user: int) -> None:
         """Has no query of this user answered for a while."""

@@ -15,7 +15,7 @@ from .access import BadList, rights_at
 from .nodes import Node, Rights, identity_of
 from .script import TEXT_MAX
 from .walk import ATTEMPTS
-from .way import DIRECTORY_FLAGS, Found, Torn, Way, wait_until_old
+from .way import DIRECTORY_FLAGS, Found, Patience, Torn, Way
 
 FILE_FLAGS = os.O_RDONLY | os.O_NOFOLLOW | os.O_NONBLOCK | os.O_NOCTTY | os.O_CLOEXEC
 LOOKED_FOR_NUL = 8192
@@ -75,7 +75,8 @@ class Looker:
     """
 
     def __init__(self, warn: Callable[[str], None]) -> None:
-        self.way = Way()
+        self.patience = Patience()
+        self.way = Way(self.patience)
         self.last: list[int] | None = None  # what the last look at this way saw
         self.warn = warn
 
@@ -89,12 +90,18 @@ class Looker:
         try:
             self._go(place.way)
             for _ in range(ATTEMPTS):
+                began = time.monotonic()
                 before = self.last or self.way.look()
                 self.last = None
                 looked = self._read(place)
                 self.last = self.way.look()
                 if looked is not None and self.last == before:
                     return looked
+                rights = place.way[-1][1].rights
+                assert rights is not None
+                whose = rights.owner or place.way[-1][1].identity
+                if not self.patience.spend(whose, time.monotonic() - began):
+                    break
         except (Torn, Unstable):
             return None
         except (BadList, OSError) as error:
@@ -130,7 +137,8 @@ class Looker:
         except (FileNotFoundError, BlockingIOError) as error:
             raise Unstable from error
         try:
-            wait_until_old(os.fstat(descriptor).st_ctime_ns)
+            if not self.patience.wait_until_old(os.fstat(descriptor)):
+                raise Unstable
             status = os.fstat(descriptor)
             self._check(place.found, status)
             rights = rights_at(descriptor, status)
@@ -158,6 +166,9 @@ class Looker:
         if status.st_size > TEXT_MAX:
             self.warn(f"{os.fsdecode(name)}: over 16 MiB, its path is kept without its text")
             return b""
+        if status.st_size and os.lseek(descriptor, 0, os.SEEK_HOLE) < status.st_size:
+            return b""  # its holes take no room of its owner's, and would take it of the store's
+        os.lseek(descriptor, 0, os.SEEK_SET)
         pieces = [os.read(descriptor, min(status.st_size + 1, PIECE))]
         if b"\0" in pieces[0][:LOOKED_FOR_NUL]:
             return b""

@@ -1,8 +1,9 @@
 """The mirror: makes the program's tree what the real one is, turn by turn."""
 
+import os
 import shutil
 from collections.abc import Iterator
-from dataclasses import dataclass
+from dataclasses import dataclass, field
 from pathlib import Path
 from typing import BinaryIO
 
@@ -15,10 +16,11 @@ from .progress import Progress
 from .reach import Failed, Reach
 from .script import spell
 from .state import Addition, BadState, Files, State, apply, new_serial, read_state
-from .walk import ATTEMPTS, Limits, Walk
-from .way import Found, Seen
+from .walk import ATTEMPTS, BadRoot, Limits, Walk
+from .way import Found, Patience, Seen
 
 TEXTS_AT_MOST = 64 << 20  # bytes of texts in a batch
+ROOM_LEFT = 4 << 30  # bytes, or a tenth of the disk: texts leave them free, for rights and names
 
 
 @dataclass(frozen=True)
@@ -41,6 +43,7 @@ class Report:
     size: int = 0
     batches: int = 0
     shut: int = 0
+    missing: list[str] = field(default_factory=list)  # roots that aren't there, and why
 
 
 class Turn:
@@ -55,15 +58,16 @@ class Turn:
         self.waiting: list[Place] = []
 
     def walk(self) -> Walk:
-        """Walks until nothing is torn, at most five times."""
+        """Walks until nothing is torn, or what is torn took its time; at most five times."""
         by_identity = {node.identity: node for node in self.state.tree.nodes.values()}
+        patience = Patience()
         for _ in range(ATTEMPTS):
-            walk = self._walk_once(by_identity)
-            if not walk.torn:
+            walk = self._walk_once(by_identity, patience)
+            if not walk.torn or patience.is_spent:
                 break
         return walk
 
-    def _walk_once(self, by_identity: dict[Identity, Node]) -> Walk:
+    def _walk_once(self, by_identity: dict[Identity, Node], patience: Patience) -> Walk:
         progress = self.progress
         walk = Walk(
             self.state.tree,
@@ -71,10 +75,17 @@ class Turn:
             self.wish.limits,
             progress.warn,
             lambda seen: progress.tell(f"{seen} names seen"),
+            patience,
         )
         try:
+            self.report.missing = []
             for root in self.wish.roots:
-                walk.root(root)
+                try:
+                    walk.root(root)
+                except BadRoot as error:
+                    self.report.missing.append(str(error))
+            if len(self.report.missing) == len(self.wish.roots):
+                raise BadRoot("; ".join(self.report.missing))
         finally:
             walk.close()
         return walk
@@ -151,6 +162,11 @@ class Turn:
             if looked is None:
                 self.report.shut += 1
                 continue
+            differs = looked.node.digest != tree.nodes[looked.node.number].digest
+            if differs and not self._has_room(3 * (texts.size + len(looked.text))):
+                self.progress.warn("the disk of the store is nearly full: files are shut")
+                self.report.shut += 1
+                continue
             before = self._take(tree, looked, texts)
             if pairs is not None:
                 pairs.append((before, looked.node))
@@ -158,6 +174,12 @@ class Turn:
             if texts.size >= TEXTS_AT_MOST:
                 return True
         return False
+
+    def _has_room(self, size: int) -> bool:
+        """Whether the disk has room for so many bytes, and for what has to go on without them."""
+        disk = os.statvfs(self.folder)
+        left = min(ROOM_LEFT, disk.f_blocks * disk.f_frsize // 10)
+        return disk.f_bavail * disk.f_frsize - size > left
 
     def _tell(self) -> None:
         """Tells how far it is."""
@@ -255,6 +277,7 @@ class Mirror:
     def turn(self, wish: Wish) -> Report:
         """Walks, looks and feeds until the program's tree is what was found."""
         turn = Turn(wish, self.state, self.progress, self.folder)
+        self.progress.next_turn()
         walk = turn.walk()
         tree = turn.target(walk)
         looker = Looker(self.progress.warn)

@@ -13,13 +13,14 @@ from . import VERSION
 from .mirror import Mirror, Report, Wish, dry_run
 from .nodes import Identity, identity_of
 from .progress import Progress, plain
-from .reach import CONTROL, Direct, Failed, Served, only_one
+from .reach import CONTROL, Direct, Failed, Served, Unanswered, only_one
 from .state import BadState
 from .users import BadUsers, of_file, of_system
 from .walk import BadRoot, Limits
 
 FOLDER = "/var/lib/wumpus"
 SOCKETS = "/run/wumpus"
+SOON = 2.0  # seconds after which a service that wasn't there is looked for again
 
 
 def parser() -> argparse.ArgumentParser:
@@ -62,10 +63,10 @@ def reach_of(given: argparse.Namespace, folder: Path) -> Direct | Served:
     Raises `Failed` where no service answers and one has to.
     """
     try:
-        return Served(Path(given.sockets) / CONTROL)
+        return Served(Path(given.sockets) / CONTROL, folder)
     except (FileNotFoundError, ConnectionRefusedError) as error:
         if given.served:
-            raise Failed(f"no service answers at {given.sockets}/{CONTROL}") from error
+            raise Unanswered(f"no service answers at {given.sockets}/{CONTROL}") from error
         return Direct(given.program, folder)
 
 
@@ -92,6 +93,8 @@ def turns(given: argparse.Namespace, folder: Path, progress: Progress) -> None:
             told = one_turn(mirror, wish)
             reach.done()
             report(told, began, given.quiet or (is_told and told.batches == 0))
+            if told.missing:
+                raise BadRoot("; ".join(told.missing))
             is_told = True  # of later turns only those that fed something are told
             if given.every is None:
                 break
@@ -147,6 +150,6 @@ def main() -> int:
             print(f"wumpus-mirror: {plain(str(error))}", file=sys.stderr)
             if given.every is None:
                 return 2
-            time.sleep(given.every)
+            time.sleep(min(given.every, SOON) if isinstance(error, Unanswered) else given.every)
         except KeyboardInterrupt:
             return 2

@@ -29,7 +29,7 @@ def file_systems_left_out() -> LeftOut:
     except OSError:
         return LeftOut()
     for line in lines:
-        fields = line.split()
+        fields = line.rstrip(b"\n").split(b" ")  # other white space isn't escaped there
         kind = fields[fields.index(b"-") + 1].decode("ascii", "replace")
         if kind in LEFT_OUT or kind.startswith("fuse."):
             major, minor = fields[2].split(b":")

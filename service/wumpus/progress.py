@@ -4,6 +4,7 @@ import sys
 import time
 
 EVERY = 0.1
+WARNINGS = 1000  # of one turn: names are of users, who can make any number of them
 
 
 class Progress:
@@ -15,7 +16,8 @@ class Progress:
         self.quiet = quiet
         self.last = 0.0
         self.wide = 0
-        self.warned: set[str] = set()
+        self.warned: set[str] = set()  # in this turn
+        self.before: set[str] = set()  # in the one before
 
     def tell(self, text: str) -> None:
         """Shows how far it is, at most ten times a second."""
@@ -37,10 +39,20 @@ class Progress:
 
     def warn(self, text: str) -> None:
         """Tells of something that is left out, once."""
-        if text not in self.warned and not self.quiet:
+        if self.quiet or text in self.warned or len(self.warned) > WARNINGS:
+            return
+        if text in self.before:
             self.warned.add(text)
-            self.clear()
-            print(f"{self.program}: {plain(text)}", file=sys.stderr)
+            return
+        if len(self.warned) == WARNINGS:
+            text = "more is left out or shut than is told here"
+        self.warned.add(text)
+        self.clear()
+        print(f"{self.program}: {plain(text)}", file=sys.stderr)
+
+    def next_turn(self) -> None:
+        """What the last turn warned of isn't told again, and what was before it is forgotten."""
+        self.before, self.warned = self.warned, set()
 
 
 def plain(text: str) -> str:

@@ -11,11 +11,13 @@ import fcntl
 import os
 import shutil
 import socket
+import stat
 from collections.abc import Iterator
 from pathlib import Path
 from typing import Protocol
 
 from .batch import Batch
+from .peers import peer_of
 from .program import Ended, Program, Refused, Talk
 from .script import escape, unescape
 
@@ -28,6 +30,10 @@ END_SECONDS = 600.0
 
 class Failed(Exception):
     """What was asked of the program wasn't done; the text says why."""
+
+
+class Unanswered(Failed):
+    """No service answers; it may be about to."""
 
 
 class Reach(Protocol):
@@ -52,7 +58,9 @@ class Reach(Protocol):
 @contextlib.contextmanager
 def only_one(path: Path, who: str) -> Iterator[None]:
     """Holds the lock of a file, which is made. Raises `Failed` where another process has it."""
-    with open(path, "ab") as lock:
+    # Reading is enough for a lock, and so one that user 0 made is no hindrance to the unit's user.
+    flags = os.O_RDONLY | os.O_CREAT | os.O_NOFOLLOW | os.O_CLOEXEC
+    with open(os.open(path, flags, 0o644), "rb") as lock:
         try:
             fcntl.flock(lock, fcntl.LOCK_EX | fcntl.LOCK_NB)
         except BlockingIOError as error:
@@ -60,8 +68,16 @@ def only_one(path: Path, who: str) -> Iterator[None]:
         yield
 
 
+def check_own(folder: Path) -> None:
+    """Raises `Failed` where others than this process's user may put something into a folder."""
+    status = os.lstat(folder)
+    if not stat.S_ISDIR(status.st_mode) or status.st_uid != os.geteuid() or status.st_mode & 0o022:
+        raise Failed(f"{folder} is a link, somebody else's, or others may write to it")
+
+
 def only_program(folder: Path) -> contextlib.AbstractContextManager[None]:
-    """Held by whoever runs the program over the store of a folder."""
+    """Held by whoever runs the program over the store of a folder, which has to be her own."""
+    check_own(folder)
     return only_one(folder / "program.lock", "another program, perhaps that of a service,")
 
 
@@ -136,11 +152,16 @@ class Direct:
 
 
 class Served:
-    """The program that a service holds, by its control socket."""
+    """The program that a service holds, by its control socket. It is handed everybody's texts.
 
-    def __init__(self, path: Path) -> None:
+    So it has to be of user 0, of this process's own, or of the owner of the folder.
+    """
+
+    def __init__(self, path: Path, folder: Path) -> None:
         self.socket = socket.socket(socket.AF_UNIX, socket.SOCK_STREAM)
         self.socket.connect(str(path))
+        if peer_of(self.socket).user not in (0, os.geteuid(), folder.stat().st_uid):
+            raise Failed(f"{path} isn't a socket of the service")
         self.answers = self.socket.makefile("rb")
 
     def _answer(self) -> list[bytes]:

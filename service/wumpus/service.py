@@ -93,8 +93,11 @@ class Service:
         except Ended as error:
             self._drop(str(error))
 
-    def _drop(self, why: str) -> None:
-        """Kills the program: nothing is saved. It begins again at once, or later if it fails."""
+    def _drop(self, why: str, ended: bool = False) -> None:
+        """Kills the program: nothing is saved. It begins again at once, or later if it fails.
+
+        Where it ended by itself, the query under way may be why.
+        """
         self.log(why)
         if self.program is not None:
             self._forget_program()
@@ -104,6 +107,8 @@ class Service:
         self.begin_at = time.monotonic() + min(30.0, 0.05 * 2.0 ** min(self.failures, 12))
         query, self.query = self.query, None
         if query is not None:
+            if ended:
+                self.clients.suspect(query.client.peer.user)
             self.clients.answer(query.client, queries.STOPPED)
         self._fail_controls(b"failed\t" + escape(why.encode("utf-8", "replace")) + b"\n")
         self.doing = Doing.NOTHING
@@ -168,7 +173,7 @@ class Service:
                 if self.program is None:
                     return
         except (Ended, BadReply) as error:
-            self._drop(str(error))
+            self._drop(str(error), True)
 
     def _line(self, line: bytes) -> None:
         """Takes one line of a reply."""

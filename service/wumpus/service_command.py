@@ -14,7 +14,7 @@ from . import VERSION
 from .clients import Bounds
 from .mirror_command import FOLDER, SOCKETS
 from .program import Program, die_with_parent
-from .reach import CONTROL, Failed, only_program
+from .reach import CONTROL, Failed, check_own, only_program
 from .service import Service
 
 ASK = "ask"
@@ -119,6 +119,7 @@ def main() -> int:
 def serve(given: argparse.Namespace) -> int:
     """What `main` does, while nobody else runs the program: the exit status. Raises `OSError`."""
     folder, sockets = Path(given.folder), Path(given.sockets)
+    check_own(sockets)
     mirrors = Mirrors(given)
     ask = listening(sockets / ASK, 0o666)
     control = listening(sockets / CONTROL, 0o600)

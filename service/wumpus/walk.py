@@ -11,6 +11,7 @@ import fnmatch
 import os
 import re
 import stat
+import time
 from collections.abc import Callable
 from dataclasses import dataclass
 
@@ -18,7 +19,7 @@ from .access import BadList, rights_at
 from .mounts import file_systems_left_out
 from .nodes import Identity, Node, Rights, Tree, device_of, identity_of
 from .script import DEPTH_MAX, NAME_MAX
-from .way import DIRECTORY_FLAGS, NO_ENTRIES, Found, Seen, Step, Torn, Way, wait_until_old
+from .way import DIRECTORY_FLAGS, NO_ENTRIES, Found, Patience, Seen, Step, Torn, Way
 
 ATTEMPTS = 5
 DEEPEST = DEPTH_MAX - 1  # a directory that moves passes through one at depth 2
@@ -75,6 +76,7 @@ class Walk:
         limits: Limits,
         warn: Callable[[str], None],
         tick: Callable[[int], None],
+        patience: Patience,
     ) -> None:
         self.old = old
         self.known = known
@@ -84,7 +86,7 @@ class Walk:
         self.fits = pattern_of(limits.excludes)
         self.left_out = file_systems_left_out()
         self.found: dict[Identity, Seen] = {}
-        self.way = Way()
+        self.way = Way(patience)
         self.torn = False
         self.seen = 0
         self.device: int | None = None
@@ -112,7 +114,7 @@ class Walk:
                 self._down(name)
             last = self.way.steps[-1]
             self.device = device_of(last.found.identity)
-            self._read(path.rstrip(b"/"))
+            self._read(b"".join(b"/" + name for name in names))
         except Torn:
             self.torn = True
         finally:
@@ -137,15 +139,13 @@ class Walk:
 
     def _directory(self, descriptor: int) -> Found:
         """What is seen of the directory that is open there, with its rights."""
-        status = os.fstat(descriptor)
-        wait_until_old(status.st_ctime_ns)
+        torn = not self.way.patience.wait_until_old(os.fstat(descriptor))
         status = os.fstat(descriptor)
         identity = identity_of(status)
         known = self.known.get(identity)
         plain = (status.st_mode & 0o7777, status.st_uid, status.st_gid)
         if known is not None and not known.is_directory:
             known = None
-        torn = False
         if known is not None and known.changed == status.st_ctime_ns and known.rights[:3] == plain:
             rights = known.rights
         else:
@@ -154,6 +154,7 @@ class Walk:
             except (BadList, OSError) as error:
                 self.warn(f"an access list that can't be read: {error}")
                 rights, torn = Rights(0, status.st_uid, status.st_gid), True
+        self.torn = self.torn or torn
         found = Found(identity, True, known, rights, status.st_ctime_ns, 0, torn)
         self.found[identity] = found
         return found
@@ -176,6 +177,7 @@ class Walk:
         count = len(self.found)
         directories: list[bytes] = []
         for _ in range(ATTEMPTS):
+            began = time.monotonic()
             before = self.way.look()
             here.found.entries = dict(kept)
             while len(self.found) > count:
@@ -189,9 +191,17 @@ class Walk:
                 here.found.entries.pop(name, None)
             if self.way.look() == before:
                 return directories
+            if not self.way.patience.spend(self._whose(here), time.monotonic() - began):
+                break
         here.found.torn = True
         self.torn = True
         return directories
+
+    @staticmethod
+    def _whose(here: Step) -> int:
+        """Whose patience a directory takes."""
+        assert here.found.rights is not None
+        return here.found.rights.owner or here.found.identity
 
     def _names(self, here: Step, path: bytes) -> list[bytes]:
         """The files of a directory, as its entries, and the names of its directories."""

@@ -12,6 +12,8 @@ from .access import BadList, rights_at
 from .nodes import Identity, Node, Rights, identity_of
 
 YOUNG = 50_000_000  # nanoseconds in which two changes may have one ctime
+OF_OWNER = 2.0  # seconds that a walk, or the looks of a turn, give to what one user owns
+OF_ALL = 30.0  # and to what all own
 DIRECTORY_FLAGS = os.O_RDONLY | os.O_DIRECTORY | os.O_NOFOLLOW | os.O_CLOEXEC
 
 
@@ -54,18 +56,47 @@ class Step:
     changed: int
 
 
-def wait_until_old(changed: int) -> None:
-    """Waits until a change that comes now has another ctime than this one."""
-    age = time.time_ns() - changed
-    if 0 <= age < YOUNG:
+class Patience:
+    """How long one turn waits for what doesn't stand still: so much of each owner, and of all.
+
+    What user 0 owns, as a directory where everybody may make files, counts by itself.
+    """
+
+    def __init__(self) -> None:
+        self.spent: dict[int, float] = {}
+        self.all = 0.0
+        self.is_spent = False
+
+    def spend(self, whose: int, seconds: float) -> bool:
+        """Counts the seconds: whether there is more for this one."""
+        self.all += seconds
+        self.spent[whose] = self.spent.get(whose, 0.0) + seconds
+        is_left = self.spent[whose] < OF_OWNER and self.all < OF_ALL
+        self.is_spent = self.is_spent or not is_left
+        return is_left
+
+    def wait_until_old(self, status: os.stat_result) -> bool:
+        """Waits until a change that comes now has another ctime than this one.
+
+        False where its owner has no more time: then it isn't waited for.
+        """
+        age = time.time_ns() - status.st_ctime_ns
+        if not 0 <= age < YOUNG:
+            return True
+        whose = status.st_uid or identity_of(status)
+        if not self.spend(whose, 0.0):
+            return False
         time.sleep((YOUNG - age) / 1e9)
+        self.spend(whose, (YOUNG - age) / 1e9)
+        return True
 
 
 class Way:
     """The directories from `/` to the one that is read, each held open."""
 
-    def __init__(self) -> None:
+    def __init__(self, patience: Patience) -> None:
         self.steps: list[Step] = []
+        self.patience = patience
 
     def look(self) -> list[int]:
         """The ctimes of all directories on the way, by name from above.
@@ -77,7 +108,9 @@ class Way:
             status = self._status(place, step)
             if status.st_ctime_ns != step.changed:
                 self._compare(step, status)
-            wait_until_old(status.st_ctime_ns)
+            if not self.patience.wait_until_old(status):
+                self._tear(step.found)
+                raise Torn
             seen.append(status.st_ctime_ns)
         return seen
 
