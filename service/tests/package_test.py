@@ -101,6 +101,7 @@ def upgraded(root: Root, score: Score) -> None:
     begun = [line for line in said if line.startswith(("enable", "start"))]
     score.check(status == 0 and begun == [], f"an upgrade begins {begun}: {told}")
     stub.unlink()
+    (root.folder / "run/systemd/system").rmdir()
 
 
 def removed(root: Root, score: Score) -> None:
