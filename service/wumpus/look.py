@@ -97,10 +97,7 @@ class Looker:
                 self.last = self.way.look()
                 if looked is not None and self.last == before:
                     return looked
-                rights = place.way[-1][1].rights
-                assert rights is not None
-                whose = rights.owner or place.way[-1][1].identity
-                if not self.patience.spend(whose, time.monotonic() - began):
+                if not self.patience.is_left_for(place.way[-1][1], began):
                     break
         except (Torn, Unstable):
             return None

@@ -173,7 +173,7 @@ class Service:
                 if self.program is None:
                     return
         except (Ended, BadReply) as error:
-            self._drop(str(error), True)
+            self._drop(str(error), ended=True)
 
     def _line(self, line: bytes) -> None:
         """Takes one line of a reply."""

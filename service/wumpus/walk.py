@@ -191,17 +191,11 @@ class Walk:
                 here.found.entries.pop(name, None)
             if self.way.look() == before:
                 return directories
-            if not self.way.patience.spend(self._whose(here), time.monotonic() - began):
+            if not self.way.patience.is_left_for(here.found, began):
                 break
         here.found.torn = True
         self.torn = True
         return directories
-
-    @staticmethod
-    def _whose(here: Step) -> int:
-        """Whose patience a directory takes."""
-        assert here.found.rights is not None
-        return here.found.rights.owner or here.found.identity
 
     def _names(self, here: Step, path: bytes) -> list[bytes]:
         """The files of a directory, as its entries, and the names of its directories."""

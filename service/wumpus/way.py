@@ -12,8 +12,8 @@ from .access import BadList, rights_at
 from .nodes import Identity, Node, Rights, identity_of
 
 YOUNG = 50_000_000  # nanoseconds in which two changes may have one ctime
-OF_OWNER = 2.0  # seconds that a walk, or the looks of a turn, give to what one user owns
-OF_ALL = 30.0  # and to what all own
+SECONDS_OF_OWNER = 2.0  # that a walk, or the looks of a turn, give to what one user owns
+SECONDS_OF_ALL = 30.0  # and to what all own
 DIRECTORY_FLAGS = os.O_RDONLY | os.O_DIRECTORY | os.O_NOFOLLOW | os.O_CLOEXEC
 
 
@@ -63,15 +63,16 @@ class Patience:
     """
 
     def __init__(self) -> None:
-        self.spent: dict[int, float] = {}
+        self.spent: dict[int, float] = {}  # by owner, or by what user 0 owns
         self.all = 0.0
         self.is_spent = False
 
-    def spend(self, whose: int, seconds: float) -> bool:
-        """Counts the seconds: whether there is more for this one."""
+    def spend(self, owner: int, identity: Identity, seconds: float) -> bool:
+        """Counts the seconds of something: whether there is more for its owner."""
+        whose = owner or identity
         self.all += seconds
         self.spent[whose] = self.spent.get(whose, 0.0) + seconds
-        is_left = self.spent[whose] < OF_OWNER and self.all < OF_ALL
+        is_left = self.spent[whose] < SECONDS_OF_OWNER and self.all < SECONDS_OF_ALL
         self.is_spent = self.is_spent or not is_left
         return is_left
 
@@ -83,12 +84,16 @@ class Patience:
         age = time.time_ns() - status.st_ctime_ns
         if not 0 <= age < YOUNG:
             return True
-        whose = status.st_uid or identity_of(status)
-        if not self.spend(whose, 0.0):
+        if not self.spend(status.st_uid, identity_of(status), 0.0):
             return False
         time.sleep((YOUNG - age) / 1e9)
-        self.spend(whose, (YOUNG - age) / 1e9)
+        self.spend(status.st_uid, identity_of(status), (YOUNG - age) / 1e9)
         return True
+
+    def is_left_for(self, found: Found, began: float) -> bool:
+        """Counts the time since then for a directory: whether there is more for its owner."""
+        assert found.rights is not None
+        return self.spend(found.rights.owner, found.identity, time.monotonic() - began)
 
 
 class Way:
