@@ -1,8 +1,9 @@
 -- Lemmas on walks over a directory's entries and over the blocks of an entry.
-use Rattle.std.proofs.Common.{◌≡◌, ℕ, zero, suc, ◌+◌, ◌-◌, ◌<◌, ◌≤◌, List, [], ◌∷◌, length, min, drop, refl, ap, sym, subst, ◌∙◌, Contains}
+use Rattle.std.proofs.Common.{◌≡◌, ℕ, zero, suc, true, false, ◌+◌, ◌-◌, ◌<◌, ◌≤◌, List, [], ◌∷◌, length, min, drop, refl, ap, sym, subst, ◌∙◌, Contains}
 use Rattle.std.proofs.Common.{arith}
+use Rattle.std.specs.declared.cmp.Ordering.{Ordering}
 use Rattle.std.specs.declared.cmp.Ordering.TheVariants.{Less, Equal, Greater}
-use Rattle.std.specs.Ordering.{nat_cmp, ordering_reverse}
+use Rattle.std.specs.Ordering.{is_lt, nat_cmp, ordering_reverse}
 use Rattle.std.specs.Cmp.Lexicographic.{slice_cmp, nat_list_cmp_total}
 use Rattle.std.specs.List.{flat_map}
 use Rattle.std.specs.List.Sorted.{IsStrictlySortedBy}
@@ -15,6 +16,7 @@ use Rattle.wu_part.specs.declared.reading.Head.{Head}
 use Rattle.wu_part.specs.Decoding.{blocks_in, entries_in}
 use Rattle.wu_part.specs.Directories.{StartsWithNumbers, all_blocks, block_numbers}
 use Rattle.wu_part.specs.Entries.{IsNextBlock, AreNextBlocks, IsNextEntry, AreEntries}
+use Rattle.wu_part.specs.Searches.{begins_before}
 use Rattle.wu_part.proofs.DecodingLemmas.{blocks_are, blocks_few, entries_are}
 use Rattle.wu_part.proofs.EntryReadingLemmas.{entries_uncons}
 use Rattle.wu_part.proofs.ReadingLemmas.{after_three, block_of_numbers, block_same, stand_within}
@@ -139,6 +141,23 @@ one_passed term all entry later left e less l =
         (tied_itself nat_list_cmp_total term) in
         absurd cc
     not_first other same (suc k, inside, is) = (k, omega arith, is)
+
+-- the first of the entries stands before the term, or it doesn't
+pub first_less : (term : List ℕ) (left : List TermEntry) (entry : TermEntry) (later : List TermEntry) → left ≡ entry ∷ later
+    → begins_before term left ≡ true → slice_cmp nat_cmp entry.term term ≡ Less
+first_less term left entry later is before = less (slice_cmp nat_cmp entry.term term) (rw is at before)
+  where
+    less : (order : Ordering) → is_lt order ≡ true → order ≡ Less
+    less Less e = refl
+    less Equal e = absurd cc
+    less Greater e = absurd cc
+
+pub first_not_less : (term : List ℕ) (left : List TermEntry) (entry : TermEntry) (later : List TermEntry) → left ≡ entry ∷ later
+    → begins_before term left ≡ false → slice_cmp nat_cmp entry.term term ≡ Less → ⊥
+first_not_less term left entry later is none less =
+    let not_less : is_lt (slice_cmp nat_cmp entry.term term) ≡ false = rw is at none in
+    let wrong : is_lt (slice_cmp nat_cmp entry.term term) ≡ true = ap is_lt less in
+    absurd cc
 
 pub nothing_left : (term : List ℕ) (all left : List TermEntry) → left ≡ [] → IsLeftFor term all left
     → (entry : TermEntry) → Contains all entry → entry.term ≡ term → ⊥

@@ -94,7 +94,7 @@ fn is_term_length(length: u64, left: usize) -> bool
 
 /// The number of addresses that the bytes start with, at least 1, and the rest.
 #[inline(always)]
-fn take_count(bytes: &[u8]) -> Option<(u64, &[u8])>
+pub(crate) fn take_count(bytes: &[u8]) -> Option<(u64, &[u8])>
     ensures found { IfSome result (λ next. StartsWithNumber bytes.now next.0 next.1.now × (0 < next.0)) }
     ensures none { IfNone result ((number : ℕ) (rest : List ℕ) → 0 < number → number < 2 ^ 64 → StartsWithNumber bytes.now number rest
         → ⊥) }

@@ -1,5 +1,5 @@
 //! Walks over a directory's entries.
-ghost use Rattle.std.specs.Prelude.{◌≡◌, [], ◌<◌, ◌≤◌, ◌⊎◌, ℕ, List, Contains, MatchOption, drop, filter, get_or, length, map};
+ghost use Rattle.std.specs.Prelude.{◌≡◌, [], ◌∷◌, ◌<◌, ◌≤◌, ◌⊎◌, ℕ, List, Contains, MatchOption, drop, filter, get_or, length, map};
 ghost use Rattle.std.specs.List.{AllByRecursion};
 ghost use Rattle.std.specs.List.Sorted.{IsStrictlySortedBy};
 ghost use Rattle.std.specs.Cmp.Lexicographic.{slice_cmp};
@@ -11,7 +11,7 @@ ghost use Rattle.wu_part.specs.Marks.{IsAfter, IsMark, entries_from};
 ghost use Rattle.wu_part.specs.Searches.{begins_before, is_from};
 
 use crate::cursors::Entry;
-use crate::entry_reading::{take_entry, take_term};
+use crate::entry_reading::{take_count, take_entry, take_term};
 use crate::marks::Mark;
 use crate::reading::Head;
 use std::cmp::Ordering;
@@ -76,6 +76,28 @@ impl<'a> Terms<'a> {
             None => false,
         }
     }
+
+    /// The first entry that is left. Its blocks aren't gone through, however many it has.
+    fn first(&self) -> Option<Entry<'a>>
+        ensures { MatchOption result (self.now ≡ []) (λ entry. (later : List TermEntry) × (self.now ≡ entry ∷ later)) }
+    {
+        if self.left == 0 {
+            return None;
+        }
+        let Some((term, rest)) = take_term(self.rest) else {
+            return None;
+        };
+        let Some((count, bytes)) = take_count(rest) else {
+            return None;
+        };
+        Some(Entry {
+            term,
+            count,
+            low: self.head.low,
+            bytes,
+            place: self.place,
+        })
+    }
 }
 
 /// A walk over the entries from the mark on.
@@ -94,20 +116,26 @@ pub(crate) fn terms_from<'a>(head: &'a Head, size: u64, bytes: &'a [u8], mark: M
 }
 
 /// The entry of the term, among entries whose terms ascend: it is one of the first few, if it is there.
-pub(crate) fn entry_among<'a>(terms: Terms<'a>, term: &[u8]) -> Option<Entry<'a>>
+pub(crate) fn entry_among<'a>(mut terms: Terms<'a>, term: &[u8]) -> Option<Entry<'a>>
     requires sorted { IsStrictlySortedBy (slice_cmp nat_cmp) (map (λ entry. entry.term) terms) }
     requires near { AllByRecursion (IsAfter term.now) (drop TERMS_BETWEEN terms) }
     ensures { MatchOption result ((entry : TermEntry) → Contains terms.entry entry → entry.term ≡ term.now → ⊥)
         (λ entry. Contains terms.entry entry × (entry.term ≡ term.now)) }
 {
-    for entry in terms {
-        match entry.term().cmp(&term) {
-            Ordering::Less => {}
-            Ordering::Equal => return Some(entry),
-            Ordering::Greater => return None,
-        }
+    while terms.begins_before(term) {
+        let Some(_) = terms.next() else {
+            return None;
+        };
     }
-    None
+    let Some(entry) = terms.first() else {
+        return None;
+    };
+    match entry.term().cmp(&term) {
+        Ordering::Equal => Some(entry),
+        // All entries before the term were passed.
+        Ordering::Less => None,
+        Ordering::Greater => None,
+    }
 }
 
 /// The entries whose terms don't stand before this one, among entries whose terms ascend.
