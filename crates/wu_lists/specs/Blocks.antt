@@ -31,6 +31,11 @@ blocks_from blob low count (entry ∷ later) =
 abbrev pub entry_of : List TermEntry → List ℕ → Option TermEntry
 entry_of terms term = find (λ entry. pointwise nat_eq entry.term term) terms
 
+-- how many addresses it has
+abbrev pub count_in : Option TermEntry → ℕ
+count_in None = 0
+count_in (Some entry) = entry.count
+
 abbrev pub blocks_in : ℕ → ℕ → Option TermEntry → List Block
 blocks_in blob low None = []
 blocks_in blob low (Some entry) = blocks_from blob low entry.count entry.blocks

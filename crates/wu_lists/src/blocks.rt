@@ -10,7 +10,7 @@ use std::alloc::Global;
 use std::hash::{Hash, Hasher};
 use wu_base::{NoMemory, Trouble};
 use wu_outside::Store;
-use wu_vbyte::take_block;
+use wu_vbyte::{is_block, take_block};
 
 /// A block of a part, as the part's directory tells of it.
 #[derive(Clone, Copy, Debug, PartialEq, Eq)]
@@ -31,14 +31,13 @@ pub struct Block {
     pub len: u64,
 }
 
-/// A block's place tells it from nearly all others, so nothing else is hashed.
+/// A block's place in its blob tells it from nearly all others, so nothing else is hashed.
 impl Hash for Block {
-    ghost hash_input = { λ block. fed.u64 block.blob ++ fed.u64 block.at };
+    ghost hash_input = { λ block. fed.u64 block.at };
 
     ghost respects_eq = { Prim.search (hashing, rules) };
 
     fn hash<H: Hasher>(&self, state: &mut H) {
-        state.write_u64(self.blob);
         state.write_u64(self.at);
     }
 }
@@ -56,6 +55,19 @@ impl Block {
         ensures memory { OnErr result (self.now.count ≤ length bytes.now) }
     {
         take_block(alloc, bytes, self.low, self.count, self.first, self.last)
+    }
+}
+
+/// The only error is that the bytes aren't the spelling of the block's addresses: its blob is damaged. Takes no memory.
+pub(crate) fn check(block: &Block, bytes: &[u8]) -> Result<(), Trouble>
+    ensures ok { OnOk result ((addresses : List ℕ) × IsSpelling block.now addresses bytes.now) }
+    ensures err { IfErr result (λ trouble. (trouble ≡ Trouble.Damaged block.now.blob)
+        × ((addresses : List ℕ) → IsSpelling block.now addresses bytes.now → ⊥)) }
+{
+    if is_block(bytes, block.low, block.count, block.first, block.last) {
+        Ok(())
+    } else {
+        Err(Trouble::Damaged { blob: block.blob })
     }
 }
 

@@ -8,7 +8,7 @@ ghost use Rattle.wu_lists.specs.Blocks.{HasBytes, IsSpelledIn, IsSpelling, bytes
 ghost use Rattle.wu_lists.specs.Causes.{IsCause};
 ghost use Rattle.wu_lists.specs.Keeping.{AreHeld, Asks, AsksFirst, IsChecked, all_missing, asked, is_same};
 
-use crate::blocks::{Block, checked, read_bytes};
+use crate::blocks::{Block, check, checked, read_bytes};
 use crate::lists::Lists;
 use std::alloc::Global;
 use std::mem;
@@ -98,8 +98,27 @@ impl Lists {
         block.addresses(self.alloc, bytes.as_slice())
     }
 
-    /// The addresses of a block that isn't kept: it is read, checked and kept. After an error the same ones are kept
-    /// as before.
+    /// Reads, checks and keeps a block that isn't kept. After an error the same ones are kept as before.
+    pub(crate) fn load<D: Store>(&mut self, store: &mut D, block: &Block) -> Result<(), Trouble>
+        requires { list_any (is_same block.now) (keys_of self.old.entries) ≡ false }
+        ensures blocks { OnOk result (Asks (block.now ∷ []) (D.holds store.old) self.old self.new
+            (D.reads store.old) (D.reads store.new)) }
+        ensures err { OnErr result (self.new ≡ self.old) }
+        ensures holds { D.holds store.new ≡ D.holds store.old }
+        ensures moments { D.moments store.new ≡ D.moments store.old }
+        ensures calm { OnOk result (D.faults store.new ≡ D.faults store.old) }
+        ensures cause { IfErr result (IsCause (block.now ∷ []) block.now.blob
+            (IfSome (D.holds store.old) (λ content. IsSpelledIn content block.now → ⊥))
+            (D.faults store.old) (D.faults store.new) (D.reads store.old) (D.reads store.new)) }
+    {
+        let room = self.take_room();
+        let bytes = read_bytes(store, block, room)?;
+        check(block, &bytes)?;
+        self.keep(block, bytes)?;
+        Ok(())
+    }
+
+    /// The same, and gives the block's addresses.
     pub(crate) fn read<D: Store>(
         &mut self,
         store: &mut D,

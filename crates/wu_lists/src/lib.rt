@@ -4,6 +4,7 @@
 #![tactic(auto)]
 
 mod blocks;
+mod counts;
 mod frames;
 mod gathering;
 mod keeping;
@@ -13,6 +14,7 @@ mod tallies;
 mod walking;
 
 pub use blocks::Block;
+pub use counts::count_of;
 pub use frames::{put_within, tally_within};
 pub use gathering::GatheredBlocks;
 pub use lists::Lists;

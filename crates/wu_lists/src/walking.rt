@@ -195,8 +195,7 @@ impl Lists {
         if self.is_kept(block) {
             return Ok(());
         }
-        self.read(store, block)?;
-        Ok(())
+        self.load(store, block)
     }
 
     /// The sink gains the addresses of the block, and none after an error.

@@ -1,9 +1,11 @@
 //! Numbers and blocks in bytes.
 use std::alloc::Global;
 use std::io;
-use wu_rows::{NoAnswer, ascending_numbers, bytes, bytes_text, number, numbers_text, plain_text};
+use wu_rows::{
+    NoAnswer, ascending_numbers, bytes, bytes_text, flag_text, number, numbers_text, plain_text,
+};
 use wu_vbyte::{
-    BLOCK_LEN, next_large, next_number, put_block, put_number, take_block, take_number,
+    BLOCK_LEN, is_block, next_large, next_number, put_block, put_number, take_block, take_number,
 };
 
 /// The answer of the call to the arguments.
@@ -14,6 +16,9 @@ pub fn answer(alloc: Global, call: &str, arguments: &[&str]) -> Result<String, N
         ("put_block", [low, addresses]) => written_block(alloc, low, addresses),
         ("take_block", [bytes, low, count, first, last]) => {
             block_read(alloc, bytes, [low, count, first, last])
+        }
+        ("is_block", [bytes, low, count, first, last]) => {
+            block_checked(alloc, bytes, [low, count, first, last])
         }
         _ => Err(NoAnswer::BadRow),
     }
@@ -50,14 +55,24 @@ fn written_block(alloc: Global, low: &str, addresses: &str) -> Result<String, No
 
 /// The block that is read, where low, count, first and last are given.
 fn block_read(alloc: Global, field: &str, given: [&str; 4]) -> Result<String, NoAnswer> {
-    let [low, count, first, last] = given;
-    let (low, count) = (number(low)?, number(count)?);
-    let (first, last) = (number(first)?, number(last)?);
+    let [low, count, first, last] = numbers_given(given)?;
     let bytes = bytes(alloc, field)?;
     match take_block(alloc, &bytes, low, count as usize, first, last)? {
         Some(addresses) => numbers_text(alloc, &addresses),
         None => plain_text(alloc, "none"),
     }
+}
+
+/// Whether there is such a block, by the same arguments.
+fn block_checked(alloc: Global, field: &str, given: [&str; 4]) -> Result<String, NoAnswer> {
+    let [low, count, first, last] = numbers_given(given)?;
+    let bytes = bytes(alloc, field)?;
+    flag_text(alloc, is_block(&bytes, low, count as usize, first, last))
+}
+
+fn numbers_given(given: [&str; 4]) -> Result<[u64; 4], NoAnswer> {
+    let [low, count, first, last] = given;
+    Ok([number(low)?, number(count)?, number(first)?, number(last)?])
 }
 
 /// Writes numbers beside each power of two and reads them back, and prints how many are the same.

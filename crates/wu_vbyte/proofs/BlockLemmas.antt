@@ -1,6 +1,6 @@
 -- Lemmas on spelled blocks.
 use Rattle.std.proofs.Common.{◌≡◌, ℕ, suc, ◌+◌, ◌-◌, ◌<◌, ◌≤◌, List, [], ◌∷◌, ◌++◌, length, get_or, drop, Option, Some, None, IfNone, refl}
-use Rattle.std.proofs.Common.{ap, sym}
+use Rattle.std.proofs.Common.{ap, sym, Bool, true, false, MatchBool}
 use Rattle.std.proofs.Common.{◌∙◌, append_assoc, append-nil, length-append, ◌⊎◌, ⊎_elim, arith}
 use Rattle.std.specs.Prelude.{slice_get}
 use Rattle.std.specs.List.{last_or}
@@ -13,6 +13,10 @@ use Rattle.wu_vbyte.proofs.NumberLemmas.{one_number, has_spelling, starts_not_em
 pub none_weaker : {X P Q : Type 0} → (block : Option X) → (P → Q) → IfNone block P → IfNone block Q
 none_weaker None weaker h = weaker h
 none_weaker (Some x) weaker h = tt
+
+pub match_weaker : {P Q R S : Type 0} → (b : Bool) → (P → R) → (Q → S) → MatchBool b P Q → MatchBool b R S
+match_weaker true one other h = one h
+match_weaker false one other h = other h
 
 -- ---- what starts with a number
 

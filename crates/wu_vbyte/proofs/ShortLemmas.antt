@@ -1,7 +1,7 @@
 -- Lemmas on blocks of short numbers.
 use Rattle.std.proofs.Common.{◌≡◌, ℕ, Bool, true, false, MatchBool, ◌+◌, ◌-◌, ◌*◌, ◌%◌, ◌<◌, ◌≤◌, ◌⊎◌, ⊎_elim, inl, inr, List, [], ◌∷◌}
 use Rattle.std.proofs.Common.{◌++◌, length, set, take, drop}
-use Rattle.std.proofs.Common.{refl, ap, arith}
+use Rattle.std.proofs.Common.{refl, ap, sym, ◌∙◌, arith, length-append}
 use Rattle.std.proofs.lemmas.Bool.{cases_lt}
 use Rattle.std.proofs.lemmas.List.{at_drop_all, take-set, take_more_set}
 use Rattle.wu_vbyte.specs.Blocks.{SpellsGaps, SpellsAfterFirst, AreFromTo, AreShort, AreSingle}
@@ -68,6 +68,12 @@ summed_all count first limit last bytes items found place taken byte total (inl 
 summed_all count first limit last bytes items found place taken byte total (inr s) over small same number is =
     let large = s.0 in absurd (omega arith)
 
+half_number : (sum byte : ℕ) (later : List ℕ) → 128 ≤ byte → SpellsGaps sum later (byte ∷ []) → ⊥
+half_number sum byte [] large g = absurd cc
+half_number sum byte (a ∷ later) large g =
+    let more = starts_with_more byte (a - sum) [] g.1 large g.2 in
+    starts_not_empty more.0 g.1 more.3
+
 -- no block is spelled where a number goes on at the end, or what was summed is another one
 pub summed_other : (count first limit last : ℕ) (bytes items : List ℕ) (place taken byte total : ℕ)
     → Summed first limit bytes (drop place bytes) (take taken items) byte total → length bytes ≤ place
@@ -80,12 +86,47 @@ summed_other count first limit last bytes items place taken byte total (inr (lar
     let end = rw (at_drop_all (λ left. left) bytes place over) at t in
     let h = end.back all b in
     half_number sum byte h.0 large h.2
-  where
-    half_number : (sum byte : ℕ) (later : List ℕ) → 128 ≤ byte → SpellsGaps sum later (byte ∷ []) → ⊥
-    half_number sum byte [] large g = absurd cc
-    half_number sum byte (a ∷ later) large g =
-        let more = starts_with_more byte (a - sum) [] g.1 large g.2 in
-        starts_not_empty more.0 g.1 more.3
+
+-- so many addresses were taken, which aren't kept
+abbrev pub Counted : ℕ → ℕ → List ℕ → List ℕ → ℕ → ℕ → ℕ → Type 0
+Counted first last bytes left taken byte total = (shown : List ℕ) × (length shown ≡ taken) × Summed first last bytes left shown byte total
+
+pub counted_next : (first last : ℕ) (bytes left : List ℕ) (taken before byte total more ended : ℕ)
+    → Counted first last bytes (byte ∷ left) taken before total → AreShort before (byte ∷ left) → byte < 256
+    → (before < 128 → more ≡ byte % 128) → (128 ≤ before → more ≡ byte % 128 * 128) → total + more ≤ last
+    → (byte < 128 → ended ≡ 1) → (128 ≤ byte → ended ≡ 0) → Counted first last bytes left (taken + ended) byte (total + more)
+counted_next first last bytes left taken before byte total more ended (shown, number, s) short top one two within last_byte more_bytes =
+    ⊎_elim
+    (λ (h : byte < 128). (
+      shown ++ (total + more) ∷ [],
+      omega (arith, last_byte h, number, length-append shown ((total + more) ∷ [])),
+      summed_last first last bytes left shown before byte total more s short.0 h one two within,
+    ))
+    (λ (h : 128 ≤ byte). (
+      shown,
+      omega (arith, more_bytes h, number),
+      summed_more first last bytes left shown before byte total more s h top short.1 one,
+    ))
+    (cases_lt byte 128)
+
+pub counted_as : (first last : ℕ) (bytes left : List ℕ) (taken number byte total sum : ℕ) → taken ≡ number → total ≡ sum
+    → Counted first last bytes left taken byte total → Counted first last bytes left number byte sum
+counted_as first last bytes left taken number byte total sum is same c = rw (is, same) at c
+
+pub counted_all : (count first limit last : ℕ) (bytes : List ℕ) (taken byte total : ℕ) → Counted first limit bytes [] taken byte total
+    → byte < 128 → taken ≡ count → total ≡ last
+    → (found : List ℕ) × SpellsAfterFirst first found bytes × AreFromTo count first last found
+counted_all count first limit last bytes taken byte total (shown, number, inl s) small same end =
+    let all = taken_all count first limit last bytes shown total s.1 (number ∙ same) end in (shown, all.0, all.1)
+counted_all count first limit last bytes taken byte total (shown, number, inr s) small same end = let large = s.0 in absurd (omega arith)
+
+pub counted_other : (count first limit last : ℕ) (bytes : List ℕ) (taken byte total : ℕ) → Counted first limit bytes [] taken byte total
+    → (byte < 128 → taken ≡ count → total ≡ last → ⊥)
+    → (all : List ℕ) → SpellsAfterFirst first all bytes → AreFromTo count first last all → ⊥
+counted_other count first limit last bytes taken byte total (shown, number, inl s) other all b f =
+    taken_other count first limit last bytes shown total s.1 (λ is end. other s.0 (sym number ∙ is) end) all b f
+counted_other count first limit last bytes taken byte total (shown, number, inr (large, top, sum, e, t)) other all b f =
+    let h = t.back all b in half_number sum byte h.0 large h.2
 
 -- as many numbers as bytes: each byte is one
 gaps_single : (before start : ℕ) (later bytes : List ℕ) → SpellsGaps start later bytes → length later ≡ length bytes → AreShort before bytes

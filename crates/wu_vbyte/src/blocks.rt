@@ -6,7 +6,7 @@ ghost use Rattle.wu_vbyte.specs.Numbers.{StartsWithNumber};
 ghost use Rattle.wu_vbyte.specs.Blocks.{SpellsBlock, SpellsAfterFirst, AppendsBlock, AreFromTo};
 
 use crate::numbers::{next_number, put_number};
-use crate::short::take_short;
+use crate::short::{is_short, take_short};
 use std::alloc::Global;
 use wu_base::NoMemory;
 
@@ -74,6 +74,24 @@ pub fn take_block(
     match after_first(bytes, low, first) {
         Some(rest) => take_later(alloc, rest, count, first, last),
         None => Ok(None),
+    }
+}
+
+/// Whether the bytes are the spelling of `count` addresses from `first` to `last`, all of the bytes: where
+/// [`take_block`] finds a block. Takes no memory.
+pub fn is_block(bytes: &[u8], low: u64, count: usize, first: u64, last: u64) -> bool
+    ensures { MatchBool result ((addresses : List ℕ) × SpellsBlock low addresses bytes.now × AreFromTo count first last addresses)
+        ((addresses : List ℕ) → SpellsBlock low addresses bytes.now → AreFromTo count first last addresses → ⊥) }
+{
+    if !is_enough(bytes.len(), count) {
+        return false;
+    }
+    if last < first {
+        return false;
+    }
+    match after_first(bytes, low, first) {
+        Some(rest) => is_short(rest, count, first, last) || are_gaps(rest, count, first, last),
+        None => false,
     }
 }
 
@@ -192,6 +210,26 @@ fn take_gaps(
     } else {
         Ok(None)
     }
+}
+
+/// Whether the bytes are those of a block of `count` addresses from `first` to `last` after the first number,
+/// number by number.
+fn are_gaps(bytes: &[u8], count: usize, first: u64, last: u64) -> bool
+    requires count { 0 < count }
+    requires within { first ≤ last }
+    ensures { MatchBool result ((found : List ℕ) × SpellsAfterFirst first found bytes.now × AreFromTo count first last found)
+        ((addresses : List ℕ) → SpellsAfterFirst first addresses bytes.now → AreFromTo count first last addresses → ⊥) }
+{
+    let mut rest = bytes;
+    let mut before = first;
+    for _ in 1..count {
+        let Some((address, after)) = next_address(rest, before, last) else {
+            return false;
+        };
+        before = address;
+        rest = after;
+    }
+    is_complete(rest, last, before)
 }
 
 /// Whether the block has ended: at the end of the bytes, with the last address.

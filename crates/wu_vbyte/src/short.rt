@@ -1,6 +1,6 @@
 //! Blocks whose numbers take one byte or two each, as those of a frequent word: they are read byte by byte with no branch on where a
 //! number ends, which can't be foretold.
-ghost use Rattle.std.specs.Prelude.{◌≡◌, ◌+◌, ◌*◌, ◌%◌, ◌^◌, ◌<◌, ◌≤◌, ◌⊎◌, ℕ, List, true, IfOk, IfSome, IfNone, MatchBool, length};
+ghost use Rattle.std.specs.Prelude.{◌≡◌, ◌+◌, ◌*◌, ◌%◌, ◌^◌, ◌<◌, ◌≤◌, ◌⊎◌, ℕ, List, true, false, IfOk, IfSome, IfNone, MatchBool, length};
 ghost use Rattle.wu_vbyte.specs.declared.short.TheConstants.{SHORT_LEN, FIRST_MAX};
 ghost use Rattle.wu_vbyte.specs.Blocks.{SpellsAfterFirst, AreFromTo, AreShort, AreSingle};
 
@@ -55,6 +55,40 @@ pub fn take_short(
     } else {
         Ok(None)
     }
+}
+
+/// Whether the bytes are such a block, of which no address is asked for. Takes no memory.
+pub fn is_short(bytes: &[u8], count: usize, first: u64, last: u64) -> bool
+    ensures found { result ≡ true → (found : List ℕ) × SpellsAfterFirst first found bytes.now × AreFromTo count first last found }
+    ensures none { result ≡ false → length bytes.now ≤ 255 → first ≤ 2 ^ 63 → AreShort 0 bytes.now →
+        (addresses : List ℕ) → SpellsAfterFirst first addresses bytes.now → AreFromTo count first last addresses → ⊥ }
+{
+    if bytes.len() > SHORT_LEN || first > FIRST_MAX || !are_short(bytes) {
+        return false;
+    }
+    // Sums of few bits, so that many bytes are added at once.
+    let mut all: u16 = 0;
+    let mut high: u16 = 0;
+    let mut unended: u8 = 0;
+    let mut before = 0;
+    for at in 0..bytes.len() {
+        let byte = bytes[at];
+        all += bits(byte);
+        high += high_bits(before, byte);
+        unended += goes_on(byte);
+        before = byte;
+    }
+    let taken = bytes.len() + 1 - usize::from(unended);
+    let total = first + u64::from(all) + u64::from(high) * 127;
+    is_whole(before, taken, count, total, last)
+}
+
+/// Whether a block ends after this byte: no number goes on, and there are `count` addresses, up to `last`.
+#[inline(always)]
+fn is_whole(byte: u8, taken: usize, count: usize, total: u64, last: u64) -> bool
+    ensures { MatchBool result ((byte < 128) × (taken ≡ count) × (total ≡ last)) (byte < 128 → taken ≡ count → total ≡ last → ⊥) }
+{
+    byte < 128 && taken == count && total == last
 }
 
 /// The block of an address more than bytes, from `first` to `last`, each byte a number. `None` comes exactly
@@ -144,6 +178,38 @@ fn part(before: u8, byte: u8) -> u64
 {
     let low = u64::from(byte % 128);
     if before < 128 { low } else { low * 128 }
+}
+
+/// The bits of a number that the byte has.
+#[inline(always)]
+fn bits(byte: u8) -> u16
+    ensures { result ≡ byte % 128 }
+{
+    u16::from(byte % 128)
+}
+
+/// The same of a byte that goes on with a number, and else 0.
+#[inline(always)]
+fn high_bits(before: u8, byte: u8) -> u16
+    ensures below { result < 128 }
+    ensures small { before < 128 → result ≡ 0 }
+    ensures large { 128 ≤ before → result ≡ byte % 128 }
+{
+    if before < 128 {
+        0
+    } else {
+        u16::from(byte % 128)
+    }
+}
+
+/// How many numbers go on after the byte: 1 or 0.
+#[inline(always)]
+fn goes_on(byte: u8) -> u8
+    ensures few { result ≤ 1 }
+    ensures one { byte < 128 → result ≡ 0 }
+    ensures none { 128 ≤ byte → result ≡ 1 }
+{
+    byte / 128
 }
 
 /// How many numbers end at the byte.

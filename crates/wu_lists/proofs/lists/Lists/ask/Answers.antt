@@ -1,8 +1,9 @@
-use Rattle.std.proofs.Common.{◌≡◌, [], ◌∷◌, true, false, refl, sym, ◌∙◌, ap, rules}
+use Rattle.std.proofs.Common.{◌≡◌, [], ◌∷◌, true, false, refl, sym, ◌∙◌, ap, subst, rules}
+use Rattle.std.proofs.lemmas.Result.{on_err_weaker}
 use Rattle.std.specs.List.{list_any}
 use Rattle.std.specs.Map.{keys_of}
-use Rattle.wu_base.proofs.Results.{on_err}
-use Rattle.wu_lists.specs.Keeping.{Kept, is_same}
+use Rattle.std.specs.Prelude.{OnOk}
+use Rattle.wu_lists.specs.Keeping.{Asks, Kept, is_same}
 use Rattle.wu_lists.proofs.Asking.{first-none}
 use Rattle.wu_lists.proofs.Fetches.{asks-kept}
 use Rattle.wu_lists.proofs.lists.Lists.ask.Goals as goal
@@ -14,15 +15,21 @@ returns-then-is_kept-clause-blocks g c =
     (g.D.Store.reads c.args.store.now) (g.D.Store.reads c.args.store.now) c.is_kept.ensures.capacity (c.is_kept.ensures.asked kept)
     (sym c.is_kept.ensures.kept ∙ kept) refl c.is_kept.ensures.held
 
-pub read-requires : goal.read-requires
-read-requires g c =
+pub load-requires : goal.load-requires
+load-requires g c =
     let absent : c.is_kept.result ≡ false = search rules in
     ap (λ (k : Kept). list_any (is_same c.args.block.now) (keys_of k.entries)) (c.is_kept.ensures.absent absent)
     ∙ sym c.is_kept.ensures.kept ∙ absent
 
-pub returns-in_err-read-clause-kept : goal.returns-in_err-read-clause-kept
-returns-in_err-read-clause-kept g c =
+pub returns-clause-blocks : goal.returns-clause-blocks
+returns-clause-blocks g c =
     let absent : c.is_kept.result ≡ false = search rules in
-    on_err c.from_residual.result
-    (first-none (g.D.Store.holds c.args.store.now) c.args.self.now c.read.new.self
-    (c.args.block.now ∷ []) (c.in_err-read.ensures.err ∙ c.is_kept.ensures.absent absent))
+    subst (λ (kept : Kept). OnOk c.load.result (Asks (c.args.block.now ∷ []) (g.D.Store.holds c.args.store.now) kept c.load.new.self
+    (g.D.Store.reads c.args.store.now) (g.D.Store.reads c.load.new.store))) (c.is_kept.ensures.absent absent) c.load.ensures.blocks
+
+pub returns-clause-kept : goal.returns-clause-kept
+returns-clause-kept g c =
+    let absent : c.is_kept.result ≡ false = search rules in
+    on_err_weaker c.load.result
+    (λ same. first-none (g.D.Store.holds c.args.store.now) c.args.self.now c.load.new.self
+    (c.args.block.now ∷ []) (same ∙ c.is_kept.ensures.absent absent)) c.load.ensures.err

@@ -1,0 +1,53 @@
+use Rattle.std.proofs.Common.{◌≡◌, ◌+◌, ◌-◌, ◌*◌, ◌^◌, ◌≤◌, length, refl, inl, arith}
+use Rattle.std.proofs.lemmas.List.{at_drop_all, drop_more}
+use Rattle.wu_vbyte.proofs.BlockLemmas.{taken_first}
+use Rattle.wu_vbyte.proofs.ShortLemmas.{counted_all, counted_as, counted_next, counted_other, Counted}
+use Rattle.wu_vbyte.proofs.short.is_short.Goals as goal
+
+pub loop-at-init : goal.loop-at-init
+loop-at-init c = record {
+  all = omega arith;
+  high = omega arith;
+  unended = omega arith;
+  short = c.if-not-are_short.ensures;
+  counted = counted_as _ _ _ _ 1 _ _ c.args.first _ (omega arith) (omega arith)
+      (_, refl, inl (omega arith, taken_first c.args.first (2 ^ 64) c.args.bytes.now (omega arith)));
+}
+
+pub loop-at-preserved : goal.loop-at-preserved
+loop-at-preserved c =
+    let i = c.loop-at.invariant in
+    let shown = drop_more c.args.bytes.now c.loop-at.at 0 c.loop-at-test.true in
+    let short = rw shown at i.short in
+    let low = c.bits-all.result in
+    let high = c.high_bits-high.result in
+    let goes = c.goes_on-unended.result in
+    record {
+      all = omega (arith, i.all, c.bits-all.ensures);
+      high = omega (arith, i.high, c.high_bits-high.ensures.below);
+      unended = omega (arith, i.unended, c.goes_on-unended.ensures.few);
+      short = short.2;
+      counted = counted_as _ _ _ _ (c.loop-at.at + 1 - c.loop-at.unended + (1 - goes)) _ _
+          (c.args.first + c.loop-at.all + c.loop-at.high * 127 + (low + high * 127)) _
+          (omega (arith, i.unended, c.goes_on-unended.ensures.few)) (omega arith)
+          (counted_next _ _ _ _ _ _ _ _ (low + high * 127) (1 - goes) (rw shown at i.counted) short
+          (omega (arith, c.type_inv.bytes c.loop-at.at))
+          (λ h. omega (arith, c.bits-all.ensures, c.high_bits-high.ensures.small h))
+          (λ h. omega (arith, c.bits-all.ensures, c.high_bits-high.ensures.large h))
+          (omega (arith, i.all, i.high, c.bits-all.ensures, c.high_bits-high.ensures.below))
+          (λ h. omega (arith, c.goes_on-unended.ensures.one h)) (λ h. omega (arith, c.goes_on-unended.ensures.none h)));
+    }
+
+pub returns-clause-found : goal.returns-clause-found
+returns-clause-found c = λ whole.
+    let counted = rw (at_drop_all (λ left. left) c.args.bytes.now c.loop-at.at (omega arith)) at c.loop-at.invariant.counted in
+    let is = rw whole at c.is_whole.ensures in
+    counted_all _ _ _ _ _ _ _ _ counted is.0 (omega (arith, is.1, c.from.ensures)) (omega (arith, is.2, c.from-2.ensures, c.from-3.ensures))
+
+pub returns-clause-none : goal.returns-clause-none
+returns-clause-none c = λ other few low short addresses b f.
+    let counted = rw (at_drop_all (λ left. left) c.args.bytes.now c.loop-at.at (omega arith)) at c.loop-at.invariant.counted in
+    let is_other = rw other at c.is_whole.ensures in
+    counted_other _ _ _ _ _ _ _ _ counted
+    (λ end same last. is_other end (omega (arith, same, c.from.ensures)) (omega (arith, last, c.from-2.ensures, c.from-3.ensures)))
+    addresses b f
