@@ -11,6 +11,7 @@ pub mod Asking
 pub mod FetchedAddresses
 pub mod PartTurns
 pub mod Counting
+pub mod Counts
 pub mod ReadingBack
 pub mod Spans
 pub mod MemoryLists

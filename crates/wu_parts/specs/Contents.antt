@@ -3,6 +3,7 @@ use Rattle.std.specs.Prelude.{◌≡◌, ℕ, ◌+◌, List, [], ◌∷◌, ◌+
 use Rattle.wu_base.specs.declared.addresses.PartRec.{PartRec}
 use Rattle.lru.specs.LruCache.{lru_cache}
 use Rattle.wu_part.specs.Directories.{PartDirectory}
+use Rattle.wu_lists.specs.Blocks.{count_in, entry_of}
 use Rattle.wu_lists.specs.Keeping.{Kept}
 use Rattle.wu_job.specs.Jobs.{JobState}
 use Rattle.wu_parts.specs.Memory.{Memory, no_postings, emptied, Gains}
@@ -43,6 +44,10 @@ no_contents flush_at next_blob = record {
 -- how many postings the parts have
 abbrev pub stored_in_parts : List PartRec → ℕ
 stored_in_parts parts = sum_by (λ part. part.stored) parts
+
+-- how many addresses the parts have of the term, as their directories tell
+abbrev pub counted_of : List ℕ → List PartDirectory → ℕ
+counted_of term directories = sum_by (λ directory. count_in (entry_of directory.terms term)) directories
 
 -- how many postings there are, in memory and in parts, dead ones too
 abbrev pub stored_in : Contents → ℕ

@@ -1,5 +1,5 @@
 //! The parts of the index, and the postings in memory.
-ghost use Rattle.std.specs.Prelude.{◌≡◌, ◌⊎◌, ℕ, ◌+◌, ◌<◌, ◌≤◌, ◌^◌, ◌∷◌, ◌++◌, List, Option, [], All, IsTrue, ◌↔◌, length, map, slice_get, IfOk, IfErr, OnOk, OnErr};
+ghost use Rattle.std.specs.Prelude.{◌≡◌, ◌⊎◌, ℕ, ◌+◌, ◌-◌, ◌<◌, ◌≤◌, ◌^◌, ◌∷◌, ◌++◌, List, Option, [], All, IsTrue, ◌↔◌, length, map, min, slice_get, IfOk, IfErr, OnOk, OnErr};
 ghost use Rattle.wu_base.specs.declared.troubles.Trouble.TheVariants.{NoMemory as RanOutOfMemory};
 ghost use Rattle.wu_layout.specs.Postings.{Posting, live_of};
 ghost use Rattle.wu_outside.specs.Content.{MayDo, with_blob};
@@ -8,10 +8,10 @@ ghost use Rattle.wu_token.specs.Words.{IsTerm};
 ghost use Rattle.wu_token.specs.Tokens.{tokens_of};
 ghost use Rattle.wu_parts.specs.Memory.{HasPostings};
 ghost use Rattle.wu_parts.specs.Causes.{IsStoreCause};
-ghost use Rattle.wu_parts.specs.Contents.{GainsTerms, no_contents, stored_in, stored_in_parts};
+ghost use Rattle.wu_parts.specs.Contents.{GainsTerms, counted_of, no_contents, stored_in, stored_in_parts};
 ghost use Rattle.wu_parts.specs.Flushing.{EmptiesMemory, Flushes};
 ghost use Rattle.wu_parts.specs.Loading.{AreLoadable, IsLoadCause, IsLoaded, ReadsFronts};
-ghost use Rattle.wu_parts.specs.StoredParts.{records_of};
+ghost use Rattle.wu_parts.specs.StoredParts.{directories_of, records_of};
 
 use crate::loading::{end_of, open_parts};
 use crate::memory::MemoryPostings;
@@ -20,7 +20,7 @@ use crate::writing::{StoredPart, put_part};
 use std::alloc::Global;
 use std::marker::Model;
 use wu_base::{ADDRESSES_MAX, NoMemory, PartRec, Range, TEXT_MAX, Trouble};
-use wu_lists::Lists;
+use wu_lists::{Lists, count_of};
 use wu_outside::Store;
 use wu_space::Space;
 use wu_token::Token;
@@ -213,6 +213,15 @@ impl Parts {
         self.memory.stored() + stored_in_all(self.parts.as_slice())
     }
 
+    /// How many addresses the parts have of the term, those of texts that are gone too, or `u64::MAX`
+    /// where that is less. Takes no memory and reads nothing, and time logarithmic in the number of
+    /// terms for each part.
+    pub fn count_of(&self, term: &[u8]) -> u64
+        ensures { result ≡ min (counted_of term.now self.now.directories) (2 ^ 64 - 1) }
+    {
+        count_in_all(&self.parts, term)
+    }
+
     /// How many parts there are.
     pub fn count(&self) -> u64
         ensures { result ≡ length self.now.parts }
@@ -285,4 +294,15 @@ fn stored_in_all(parts: &[StoredPart]) -> u64
     ensures { result ≡ stored_in_parts (records_of parts.now) }
 {
     parts.iter().map(|part| part.recorded.stored).sum()
+}
+
+/// How many addresses the parts have of the term, or `u64::MAX` where that is less.
+fn count_in_all(parts: &[StoredPart], term: &[u8]) -> u64
+    ensures { result ≡ min (counted_of term.now (directories_of parts.now)) (2 ^ 64 - 1) }
+{
+    let mut count: u64 = 0;
+    for part in parts {
+        count = count.saturating_add(count_of(&part.directory, term));
+    }
+    count
 }

@@ -2,7 +2,8 @@
 use Rattle.std.proofs.Common.{◌≡◌, ℕ, ◌+◌, ◌<◌, ◌≤◌, Bool, true, false, ◌&&◌, ◌||◌, cond, List, [], ◌∷◌, ◌++◌, length, get_or, take, map}
 use Rattle.std.proofs.Common.{refl, sym, ap, ap₂, ◌∙◌, subst, arith, eqb, eqb-true, leb, nat_lt, le-leb, lt-ltb}
 use Rattle.std.specs.Prelude.{Contains, count_by, filter, nat_eq}
-use Rattle.std.specs.Cmp.Lexicographic.{pointwise, same_text}
+use Rattle.std.specs.Cmp.Lexicographic.{nat_list_eq_equiv, pointwise, same_text}
+use Rattle.std.specs.List.{list_any}
 use Rattle.std.specs.List.Sorted.{IsStrictlyIncreasing}
 use Rattle.std.proofs.lemmas.List.{map-append, take_more}
 use Rattle.std.proofs.lemmas.Bool.{and_from, false_from_ne_true, false≢true}
@@ -26,6 +27,13 @@ use Rattle.wu_query.specs.Near.{HaveSameExtents, IsNeededAt, cut_to}
 use Rattle.wu_query.specs.Units.{IsAmong, list_at}
 use Rattle.wu_query.specs.declared.near.GatheredTerm.{GatheredTerm}
 use Rattle.wu_query.proofs.FramesOfFiles.{lists_have}
+
+-- a term is sought by either order of the comparison
+pub among_either_way : (needed : List (List ℕ)) (term : List ℕ)
+    → list_any (λ other. pointwise nat_eq other term) needed ≡ list_any (pointwise nat_eq term) needed
+among_either_way [] term = refl
+among_either_way (other ∷ needed) term =
+    ap₂ (λ (one more : Bool). one || more) (nat_list_eq_equiv.symm other term) (among_either_way needed term)
 
 -- ---- addresses that are kept
 

@@ -1,6 +1,9 @@
 //! Where terms stand in those of a user's frames in which an expression may have an extent.
-ghost use Rattle.std.specs.Prelude.{◌≡◌, ◌+◌, ◌≤◌, ℕ, List, [], ◌∷◌, All, Contains, map, IfOk, IfErr, IfSome, OnOk};
-ghost use Rattle.std.specs.List.Sorted.{IsStrictlyIncreasing};
+ghost use Rattle.std.specs.Prelude.{◌≡◌, ◌+◌, ◌≤◌, ℕ, List, [], ◌∷◌, All, Contains, map, nat_eq, IfOk, IfErr, IfSome, OnOk};
+ghost use Rattle.std.specs.List.{list_any};
+ghost use Rattle.std.specs.Ordering.{nat_cmp};
+ghost use Rattle.std.specs.Cmp.Lexicographic.{pointwise, slice_cmp};
+ghost use Rattle.std.specs.List.Sorted.{IsStrictlyIncreasing, IsStrictlySortedBy};
 ghost use Rattle.wu_base.specs.Ranges.{AreApart};
 ghost use Rattle.wu_gcl.specs.Regions.{Region, region_of};
 ghost use Rattle.wu_lists.specs.Keeping.{Asks};
@@ -12,9 +15,9 @@ ghost use Rattle.wu_query.specs.States.{State};
 ghost use Rattle.wu_query.specs.Searched.{TellsPostings};
 ghost use Rattle.wu_query.specs.Units.{CanBeSearched, IsCauseFor, found_in, list_at};
 
-use crate::fetching::{is_among, lists_of};
+use crate::fetching::lists_of;
 use std::alloc::Global;
-use wu_base::{ADDRESSES_MAX, Bytes, NoMemory, Range, TermList, Trouble};
+use wu_base::{ADDRESSES_MAX, Bytes, NoMemory, Range, TermList, Trouble, is_among};
 use wu_frames::Frames;
 use wu_gcl::Expr;
 use wu_outside::Store;
@@ -34,7 +37,8 @@ pub struct GatheredTerm {
 
 /// For each of the terms addresses in the frames, by which the expression has the same extents in
 /// each frame as by all that the terms have there. The terms are asked for in turn. Where the
-/// expression needs a rare term, of the others only addresses in frames with that term are decoded.
+/// expression needs a term that is rare in the parts, of the others only addresses in frames with
+/// that term are decoded.
 pub fn lists_near<D: Store>(
     alloc: Global,
     store: &mut D,
@@ -57,11 +61,39 @@ pub fn lists_near<D: Store>(
         (D.faults store.old) (D.faults store.new) (D.reads store.old) (D.reads store.new)) }
 {
     let needed = needed_terms(alloc, expr)?;
-    if needed.is_empty() || terms.len() < 2 {
+    if !is_one_rare(parts, &needed, terms) {
         return lists_of(alloc, store, terms, frames, parts);
     }
     let gathered = gathered_of(alloc, store, terms, frames, parts)?;
     Ok(lists_for(alloc, &needed, &gathered, frames.ranges.as_slice())?)
+}
+
+/// Whether a needed term is rare, by how many addresses of each the parts have. Else each block is
+/// better decoded once, when it is read. Only time depends on the answer.
+fn is_one_rare(parts: &Parts, needed: &[Bytes], terms: &[Bytes]) -> bool
+    requires { IsStrictlySortedBy (slice_cmp nat_cmp) needed.now }
+{
+    if needed.is_empty() || terms.len() < 2 {
+        return false;
+    }
+    let mut fewest = u64::MAX;
+    let mut total: u64 = 0;
+    for term in terms {
+        let count = parts.count_of(term.as_slice());
+        total = total.saturating_add(count);
+        if count < fewest && is_needed(needed, term) {
+            fewest = count;
+        }
+    }
+    total > 0 && fewest <= total / RARE
+}
+
+/// Whether the term is one of the needed ones, which ascend.
+fn is_needed(needed: &[Bytes], term: &Bytes) -> bool
+    requires { IsStrictlySortedBy (slice_cmp nat_cmp) needed.now }
+    ensures { result ≡ list_any (pointwise nat_eq term.now) needed.now }
+{
+    is_among(term, needed)
 }
 
 /// Each of the terms, with its addresses. The terms are asked for in turn.
@@ -122,6 +154,7 @@ fn lists_for(
     gathered: &[GatheredTerm],
     frames: &[Range],
 ) -> Result<Vec<TermList>, NoMemory>
+    requires ascending { IsStrictlySortedBy (slice_cmp nat_cmp) needed.now }
     requires apart { AreApart frames.now }
     requires bounded { All (λ frame. frame.start + frame.len ≤ ADDRESSES_MAX) frames.now }
     ensures lists { IfOk result (λ lists. (region : Region) (found : List ℕ → List ℕ) (terms : List (List ℕ))
@@ -143,6 +176,7 @@ fn lists_for(
 
 /// The place of a needed term with the fewest addresses, if they are few beside those of all terms.
 fn rare_place(needed: &[Bytes], gathered: &[GatheredTerm]) -> Option<usize>
+    requires { IsStrictlySortedBy (slice_cmp nat_cmp) needed.now }
     ensures { IfSome result (IsNeededAt needed.now gathered.now) }
 {
     let mut rarest = None;
@@ -151,7 +185,7 @@ fn rare_place(needed: &[Bytes], gathered: &[GatheredTerm]) -> Option<usize>
     for i in 0..gathered.len() {
         let count = gathered[i].at.count();
         total = total.saturating_add(count);
-        if count < fewest && is_among(needed, &gathered[i].term) {
+        if count < fewest && is_needed(needed, &gathered[i].term) {
             rarest = Some(i);
             fewest = count;
         }

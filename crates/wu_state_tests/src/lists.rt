@@ -8,7 +8,7 @@ mod fixtures;
 use crate::lists::fixtures::{directory_of, frames_of};
 use std::alloc::Global;
 use wu_base::{Range, Trouble};
-use wu_lists::{Lists, Tally};
+use wu_lists::{Lists, Tally, count_of};
 use wu_outside::{Fault, MemStore, ReadRange, Store};
 use wu_part::Directory;
 use wu_rows::{NoAnswer, bytes, number, number_text, numbers, numbers_text, plain_text};
@@ -43,6 +43,7 @@ impl Rows {
             ["directory", blob, part] => self.hold(alloc, blob, part),
             ["put", blob, part] => self.put(alloc, blob, part),
             ["remove", blob] => outcome(alloc, self.store.remove(number(blob)?), "removed"),
+            ["count", blob, term] => self.counted(alloc, blob, term),
             ["fetch" | "tally" | "touch", blob, term, frames] => {
                 let before = self.store.reads().len();
                 let asked = self.asked(alloc, fields[0], blob, term, frames);
@@ -74,6 +75,15 @@ impl Rows {
         self.directories.push((blob, directory_of(alloc, &part)?))?;
         match directory_at(&self.directories, blob) {
             Some(directory) => number_text(alloc, directory.term_count() as u64),
+            None => Err(NoAnswer::BadRow),
+        }
+    }
+
+    /// How many addresses the part has of the term, by its directory.
+    fn counted(&self, alloc: Global, blob: &str, term: &str) -> Result<String, NoAnswer> {
+        let term = bytes(alloc, term)?;
+        match directory_at(&self.directories, number(blob)?) {
+            Some(directory) => number_text(alloc, count_of(directory, &term)),
             None => Err(NoAnswer::BadRow),
         }
     }

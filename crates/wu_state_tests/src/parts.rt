@@ -44,6 +44,7 @@ fn told(alloc: Global, index: &mut Index, call: &str, arguments: &[&str]) -> Res
         ("Parts::flush", [steps, "holds", blob]) => questions::held(alloc, index, steps, blob),
         ("Parts::fetch", [_, steps, term]) => questions::fetched(alloc, index, steps, term),
         ("Parts::tally", [_, steps, term]) => questions::tallied(alloc, index, steps, term),
+        ("Parts::count_of", [steps, term]) => questions::counted(alloc, index, steps, term),
         ("Parts::gather", [_, steps, term, start, len]) => {
             questions::gathered(alloc, index, steps, term, start, len)
         }

@@ -7,7 +7,9 @@ use std::alloc::{AllocError, Global};
 use wu_base::{PartRec, Range, Worked};
 use wu_outside::{MemStore, Store};
 use wu_parts::Parts;
-use wu_rows::{NoAnswer, bytes_text, flag_text, number, numbers_text, plain_text, small_number};
+use wu_rows::{
+    NoAnswer, bytes_text, flag_text, number, number_text, numbers_text, plain_text, small_number,
+};
 
 /// Whether memory is full after the steps.
 pub fn fullness(alloc: Global, index: &mut Index, steps: &str) -> Result<String, Stop>
@@ -70,6 +72,14 @@ pub fn tallied(alloc: Global, index: &mut Index, steps: &str, term: &str) -> Res
         &index.space,
         term,
     )
+}
+
+/// How many addresses the parts have of the term after the steps.
+pub fn counted(alloc: Global, index: &mut Index, steps: &str, term: &str) -> Result<String, Stop>
+    requires { index.old.parts.memory.end ≤ index.old.space.next }
+{
+    go_on(alloc, index, steps)?;
+    Ok(number_text(alloc, index.parts.count_of(term.as_bytes()))?)
 }
 
 /// Which of the term's addresses lie in a frame after the steps, and how many were gathered in the files that are live then.

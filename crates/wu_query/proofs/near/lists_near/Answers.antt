@@ -16,5 +16,5 @@ pub returns-clause-lists : goal.returns-clause-lists
 returns-clause-lists g c = λ s tells.
     rw c.as_slice.ensures at
     (c.in_ok-lists_for.ensures.lists (region_of c.args.expr.now) (found_in c.args.frames.now.ranges s) c.args.terms.now
-    (λ term has. (c.in_ok-needed.ensures.members term).0 (rw c.deref.ensures.value at has))
-    (rw (c.as_slice.ensures, c.deref-2.ensures.value) (c.in_ok-gathered.ensures.lists s tells)))
+    (λ term has. (c.in_ok-needed.ensures.members term).0 (rw c.deref-2.ensures.value at has))
+    (rw (c.as_slice.ensures, c.deref-3.ensures.value) (c.in_ok-gathered.ensures.lists s tells)))
