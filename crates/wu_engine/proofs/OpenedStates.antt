@@ -3,7 +3,7 @@ use Rattle.std.proofs.Common.{◌≡◌, ℕ, List, [], ◌∷◌, ◌++◌, len
 use Rattle.std.specs.Prelude.{Option, Some, None, IfErr, IfNone, IfSome, IsErrAnd, OnErr, OnOk, Result, Ok, Err, option_map}
 use Rattle.std.specs.List.{AllByRecursion}
 use Rattle.wu_outside.specs.Content.{Content}
-use Rattle.wu_outside.specs.Crash.{AreAlike, settle}
+use Rattle.wu_outside.specs.Crash.{AreAlike, Moments, settle}
 use Rattle.wu_outside.specs.Ranges.{asked_size}
 use Rattle.wu_outside.specs.declared.ranges.ReadRange.{ReadRange}
 use Rattle.wu_outside.specs.declared.traits.Store as stores
@@ -19,7 +19,7 @@ use Rattle.wu_engine.specs.declared.engines.Engine.{Engine}
 use Rattle.wu_engine.specs.declared.faults.BeginFault.{BeginFault}
 use Rattle.wu_engine.specs.declared.faults.BeginFault.TheVariants as faults
 use Rattle.wu_engine.specs.Begun.{SyncsOnly}
-use Rattle.wu_engine.specs.Opened.{AsksCheckpoint, FindsRoot, IsFoundIn, MatchesRoot, ReadsCheckpoint}
+use Rattle.wu_engine.specs.Opened.{AsksCheckpoint, FindsRoot, IsFoundIn, IsSettled, MatchesRoot, ReadsCheckpoint}
 use Rattle.wu_engine.specs.Opening.{HasCheckpoint, HasOpenRoot, HoldsImage, IsBeginCause, IsDamagedAtOpening, IsIndexRange, IsOpen}
 use Rattle.wu_engine.specs.Opening.{IsOpeningRange, IsSpentWhere, Opens, OpensIndex, ReadsAtOpening, checkpoint_range, checkpoint_ranges}
 use Rattle.wu_engine.specs.Reindexed.{ReadsIndex}
@@ -208,6 +208,11 @@ on_any_ok P (Err e) p = tt
 pub on_any_err : {T E : Type 0} (P : Type 0) (r : Result T E) → P → OnErr r P
 on_any_err P (Ok x) p = tt
 on_any_err P (Err e) p = p
+
+-- a store that was just synced
+pub is_settled : (old new : Option Moments) → new ≡ option_map settle old → IsSettled new
+is_settled None new is = rw is tt
+is_settled (Some told) new is = rw is refl
 
 -- a store that is only synced
 pub syncs_only : {D : Type 0} {Store : stores.Ghosts D} {old new : D} (r : Result Engine BeginFault) → Store.holds new ≡ Store.holds old

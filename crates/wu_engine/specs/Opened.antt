@@ -1,7 +1,8 @@
 -- What the steps of an opening find.
-use Rattle.std.specs.Prelude.{◌≡◌, ◌≢◌, ⊤, ℕ, ◌<◌, List, [], ◌∷◌, ◌++◌, length, map, Option, None, Some, option_map}
+use Rattle.std.specs.Prelude.{◌≡◌, ◌≢◌, ⊤, ℕ, ◌<◌, List, [], ◌∷◌, ◌++◌, length, map, Option, None, Some, IfSome, option_map}
 use Rattle.std.specs.List.{AllByRecursion}
 use Rattle.wu_outside.specs.Content.{Content}
+use Rattle.wu_outside.specs.Crash.{Moments}
 use Rattle.wu_outside.specs.Ranges.{asked_size}
 use Rattle.wu_outside.specs.declared.ranges.ReadRange.{ReadRange}
 use Rattle.wu_tree.specs.FileSystems.{root_alone}
@@ -19,6 +20,10 @@ use Rattle.wu_engine.specs.declared.faults.BeginFault.TheVariants.{NoMemory, Sto
 use Rattle.wu_engine.specs.Opening.{HasOpenRoot, checkpoint_range, spent_of}
 
 -- ---- the root
+
+-- as far as it is told, nothing was changed since the last sync
+abbrev pub IsSettled : Option Moments → Type 0
+IsSettled moments = IfSome moments (λ told. told.now.tried ≡ [])
 
 -- what was found is the content's root, if there is one, and it leaves room
 abbrev pub FindsRoot : Option Root → Content → Type 0

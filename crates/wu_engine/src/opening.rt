@@ -13,7 +13,7 @@ ghost use Rattle.wu_image.specs.Checkpoints.{IsCheckpoint};
 ghost use Rattle.wu_query.specs.States.{State};
 ghost use Rattle.wu_engine.specs.declared.faults.BeginFault.TheVariants.{Damaged as SavedIsDamaged};
 ghost use Rattle.wu_engine.specs.Going.{Goes};
-ghost use Rattle.wu_engine.specs.Opened.{AsksCheckpoint, FindsRoot, HasRoom, IsEngineFor, IsFirstEngine, IsFoundIn, IsGivenRoot, MatchesRoot, IsRootFault, IsSpentBy, ReadsCheckpoint, numbered, ranges_recorded};
+ghost use Rattle.wu_engine.specs.Opened.{AsksCheckpoint, FindsRoot, HasRoom, IsEngineFor, IsFirstEngine, IsFoundIn, IsGivenRoot, IsSettled, MatchesRoot, IsRootFault, IsSpentBy, ReadsCheckpoint, numbered, ranges_recorded};
 ghost use Rattle.wu_engine.specs.Opening.{HasCheckpoint, HasOpenRoot, HoldsImage, IsBeginCause, IsOpen, IsSpentWhere, ReadsAtOpening, spent_of};
 ghost use Rattle.wu_engine.specs.Stands.{Stands};
 
@@ -32,7 +32,11 @@ use wu_tree::Tree;
 
 /// The store's root, where it has one. It is broken where it is no root's spelling, and leaves room where its
 /// numbers are below the limits.
+///
+/// The store was synced: over a folder that is what keeps other sessions out, so a root that was
+/// read before may be the one before another session's save.
 pub(crate) fn open_root<D: Store>(store: &mut D) -> Result<Option<Root>, BeginFault>
+    requires { IsSettled (D.moments store.old) }
     ensures found { IfOk result (λ found. IfSome (D.holds store.old) (FindsRoot found)) }
     ensures room { IfOk result (λ found. IfSome found HasRoom) }
     ensures store { OnlyReads D.Store store.old store.new result }

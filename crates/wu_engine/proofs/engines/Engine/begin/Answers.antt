@@ -6,9 +6,12 @@ use Rattle.wu_engine.specs.declared.faults.BeginFault.TheVariants.{NoMemory}
 use Rattle.wu_engine.proofs.EarlierBlobs.{drawn_by_root, drawn_without}
 use Rattle.wu_engine.proofs.GoingAtFirst.{first_goes}
 use Rattle.wu_engine.proofs.ImageStates.{first_stands}
-use Rattle.wu_engine.proofs.OpenedStates.{error_passed, never_damaged, on_any_ok, opens_nothing, reads_nothing, spent_on}
+use Rattle.wu_engine.proofs.OpenedStates.{error_passed, is_settled, never_damaged, on_any_ok, opens_nothing, reads_nothing, spent_on}
 use Rattle.wu_engine.proofs.OpenedStates.{never_spent, on_no_ok, syncs_only}
 use Rattle.wu_engine.proofs.engines.Engine.begin.Goals as goal
+
+pub open_root-requires : goal.open_root-requires
+open_root-requires g c = is_settled _ _ c.in_ok-sync.ensures.settled
 
 -- ---- what was saved is opened
 
