@@ -2,7 +2,7 @@
 # WUMPUS is the built program, and PREFIX and DESTDIR are those of the file that includes this one.
 SERVICE_SBIN := wumpus-mirror wumpusd
 SERVICE_BIN := wumpus-ask wumpus-lint
-SERVICE_TESTS := plan mirror look client limits service neighbours kernel race
+SERVICE_TESTS := plan state mirror look client limits service neighbours kernel race
 SERVICE_TEST_PROGRAM ?= $(abspath $(WUMPUS))
 UNITDIR ?= $(PREFIX)/lib/systemd/system
 SYSCONFDIR ?= /etc

@@ -1,8 +1,8 @@
 """What the mirror knows of the program's tree, kept in a file between its turns.
 
 The file `mirror.state` has one JSON value a line: first the whole state, in a line of its own and
-one for each directory, and then one line for each later batch of texts, with the nodes that it
-changed. A whole state that is about to be fed stands
+one for each directory, or several where it has many names, and then one line for each later batch
+of texts, with the nodes that it changed. A whole state that is about to be fed stands
 in `mirror.next` first. Both are written before their batch is fed: which of them is true, the
 program tells, since each batch has a serial of its own, the name of a directory in the closed one.
 """
@@ -12,13 +12,16 @@ import os
 import secrets
 from collections.abc import Iterable, Iterator
 from dataclasses import dataclass, field
+from itertools import islice
 from pathlib import Path
 from typing import Any
 
 from .nodes import FIRST, Node, Rights, Tree, device_of, first_tree, identity_at, inode_of
 from .plan import Groups
 
-FORMAT = 1
+FORMAT = 2
+READ = (1, FORMAT)  # the first had one line for each directory
+PIECE = 4096  # names of a directory in a line, which is in memory as a whole
 NAME = "mirror.state"
 NEXT = "mirror.next"
 
@@ -91,30 +94,42 @@ class _Reader:
         return Node(number, bool(directory), rights, text, identity, changed, size)
 
 
-def spell_state(state: State) -> Iterator[str]:
-    """The lines of a whole state: one of its own, and one for each directory.
+def _pieces(names: dict[bytes, int]) -> Iterator[list[tuple[bytes, int]]]:
+    """A directory's names, so many at a time; one piece where there are none."""
+    left = iter(names.items())
+    yield list(islice(left, PIECE))
+    while piece := list(islice(left, PIECE)):
+        yield piece
 
-    A file's node stands with the first directory that names it.
+
+def spell_state(state: State) -> Iterator[str]:
+    """The lines of a whole state: one of its own, and those of each directory.
+
+    A file's node stands with the first name that has it.
     """
+    entries = state.tree.entries
     head = {
         "format": FORMAT,
         "serial": state.serial,
         "following": state.following,
         "lists": state.lists,
         "users": [[user, *groups] for user, groups in state.users.items()],
-        "directories": len(state.tree.entries),
+        "directories": sum(max(1, -(-len(names) // PIECE)) for names in entries.values()),
     }
     yield json.dumps(head, separators=(",", ":")) + "\n"
     told: set[int] = set()
     nodes = state.tree.nodes
-    for number, names in state.tree.entries.items():
-        children = list(names.values())
-        new = [child for child in children if child not in told and not nodes[child].is_directory]
-        told.update(new)
-        files = [_spell_node(nodes[child]) for child in dict.fromkeys(new)]
-        spelled = [os.fsdecode(name) for name in names]
-        line = [_spell_node(nodes[number]), spelled, children, files]
-        yield json.dumps(line, separators=(",", ":")) + "\n"
+    for number, names in entries.items():
+        directory = _spell_node(nodes[number])
+        for piece in _pieces(names):
+            children = [child for _, child in piece]
+            fresh = (child for child in children if child not in told)
+            new = [child for child in dict.fromkeys(fresh) if not nodes[child].is_directory]
+            told.update(new)
+            files = [_spell_node(nodes[child]) for child in new]
+            spelled = [os.fsdecode(name) for name, _ in piece]
+            line = [directory, spelled, children, files]
+            yield json.dumps(line, separators=(",", ":")) + "\n"
 
 
 def spell_addition(addition: Addition) -> str:
@@ -133,7 +148,7 @@ def read_state(path: Path) -> tuple[State, list[Addition]] | None:
     try:
         with open(path, encoding="utf-8") as lines:
             told = json.loads(next(lines))
-            if told["format"] != FORMAT:
+            if told["format"] not in READ:
                 raise BadState(f"{path}: another format")
             users = {user: tuple(groups) for user, *groups in told["users"]}
             state = State(told["serial"], Tree(), users, told["following"], told["lists"])
@@ -150,14 +165,15 @@ def read_state(path: Path) -> tuple[State, list[Addition]] | None:
 def _read_directory(reader: _Reader, tree: Tree, line: str) -> None:
     node, names, children, files = json.loads(line)
     directory = reader.node(node)
-    tree.nodes[directory.number] = directory
+    tree.nodes.setdefault(directory.number, directory)
     numbers: dict[int, int] = {}  # a number is one object, however often it was told
     for file in files:
         told = reader.node(file)
         tree.nodes[told.number] = told
         numbers[told.number] = told.number
     children = [numbers.get(child, child) for child in children]
-    tree.entries[directory.number] = dict(zip(map(os.fsencode, names), children))
+    entries = tree.entries.setdefault(directory.number, {})
+    entries.update(zip(map(os.fsencode, names), children))
 
 
 def _read_addition(reader: _Reader, line: str) -> Addition:
