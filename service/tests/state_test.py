@@ -79,6 +79,7 @@ def older(folder: Path, score: Score) -> None:
         for part in (1, 2, 3):
             before[part].extend(line[part])
     head.update(format=1, directories=len(whole))
+    del head["lines"]
     path = folder / "older"
     path.write_text("".join(json.dumps(one) + "\n" for one in (head, *whole.values())))
     found = read_state(path)

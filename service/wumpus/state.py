@@ -114,7 +114,7 @@ def spell_state(state: State) -> Iterator[str]:
         "following": state.following,
         "lists": state.lists,
         "users": [[user, *groups] for user, groups in state.users.items()],
-        "directories": sum(max(1, -(-len(names) // PIECE)) for names in entries.values()),
+        "lines": sum(max(1, -(-len(names) // PIECE)) for names in entries.values()),
     }
     yield json.dumps(head, separators=(",", ":")) + "\n"
     told: set[int] = set()
@@ -152,7 +152,7 @@ def read_state(path: Path) -> tuple[State, list[Addition]] | None:
                 raise BadState(f"{path}: another format")
             users = {user: tuple(groups) for user, *groups in told["users"]}
             state = State(told["serial"], Tree(), users, told["following"], told["lists"])
-            for _ in range(told["directories"]):
+            for _ in range(told["lines" if told["format"] == FORMAT else "directories"]):
                 _read_directory(reader, state.tree, next(lines))
             additions = [_read_addition(reader, line) for line in lines if line.endswith("\n")]
     except FileNotFoundError:
