@@ -2,7 +2,7 @@
 ghost use Rattle.std.proofs.Common.{rules};
 ghost use Rattle.std.specs.Cmp.Rules.{hashing};
 ghost use Rattle.std.specs.Hash as fed;
-ghost use Rattle.std.specs.Prelude.{◌≡◌, ◌<◌, ◌≤◌, ◌++◌, ℕ, List, [], ◌∷◌, length, max, option_map, vec_capacity, IfOk, IfErr, IfSome, IfNone, OnOk, OnErr};
+ghost use Rattle.std.specs.Prelude.{◌≡◌, ◌<◌, ◌≤◌, ◌++◌, ℕ, List, [], ◌∷◌, length, max, option_map, vec_capacity, IfOk, IfErr, IfSome, OnOk, OnErr};
 ghost use Rattle.wu_lists.specs.Blocks.{HasBytes, IsSpelledIn, IsSpelling, range_of};
 ghost use Rattle.wu_lists.specs.Causes.{IsCause};
 
@@ -10,7 +10,7 @@ use std::alloc::Global;
 use std::hash::{Hash, Hasher};
 use wu_base::{NoMemory, Trouble};
 use wu_outside::Store;
-use wu_vbyte::{is_block, take_block};
+use wu_vbyte::{decode_block, is_block};
 
 /// A block of a part, as the part's directory tells of it.
 #[derive(Clone, Copy, Debug, PartialEq, Eq)]
@@ -43,18 +43,14 @@ impl Hash for Block {
 }
 
 impl Block {
-    /// The block's addresses, of which the bytes are the spelling. `None` exactly where they are no such
-    /// spelling. Takes memory only where the bytes are enough for so many addresses.
-    pub(crate) fn addresses(
-        &self,
-        alloc: Global,
-        bytes: &[u8],
-    ) -> Result<Option<Vec<u64>>, NoMemory>
-        ensures found { IfOk result (λ read. IfSome read (λ found. IsSpelling self.now found.items bytes.now)) }
-        ensures none { IfOk result (λ read. IfNone read ((addresses : List ℕ) → IsSpelling self.now addresses bytes.now → ⊥)) }
-        ensures memory { OnErr result (self.now.count ≤ length bytes.now) }
+    /// The block's addresses, of which the bytes are the spelling. Out of memory is the one error.
+    pub(crate) fn addresses(&self, alloc: Global, bytes: &[u8]) -> Result<Vec<u64>, NoMemory>
+        requires { (addresses : List ℕ) × IsSpelling self.now addresses bytes.now }
+        ensures { IfOk result (λ found. IsSpelling self.now found.items bytes.now) }
     {
-        take_block(alloc, bytes, self.low, self.count, self.first, self.last)
+        decode_block(
+            alloc, bytes, self.low, self.count, self.first, self.last,
+        )
     }
 }
 
@@ -68,17 +64,6 @@ pub(crate) fn check(block: &Block, bytes: &[u8]) -> Result<(), Trouble>
         Ok(())
     } else {
         Err(Trouble::Damaged { blob: block.blob })
-    }
-}
-
-/// What was found to be the block's addresses. Where none were, its blob is damaged.
-pub(crate) fn checked(block: &Block, found: Option<Vec<u64>>) -> Result<Vec<u64>, Trouble>
-    ensures found { IfOk result (λ addresses. found ≡ Some addresses) }
-    ensures none { IfErr result (λ trouble. (trouble ≡ Trouble.Damaged block.now.blob) × (found ≡ None)) }
-{
-    match found {
-        Some(addresses) => Ok(addresses),
-        None => Err(Trouble::Damaged { blob: block.blob }),
     }
 }
 

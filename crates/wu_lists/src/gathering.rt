@@ -172,8 +172,6 @@ fn put_block(
     }
     let place = block.at as usize;
     let own = &bytes[place..place + block.len as usize];
-    match block.addresses(alloc, own)? {
-        Some(addresses) => put_within(found, &addresses, frames),
-        None => Ok(()),
-    }
+    let addresses = block.addresses(alloc, own)?;
+    put_within(found, &addresses, frames)
 }

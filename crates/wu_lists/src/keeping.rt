@@ -1,14 +1,14 @@
 //! The blocks that are kept, and those that are read to be kept.
-ghost use Rattle.std.specs.Prelude.{◌≡◌, ◌+◌, ℕ, List, [], ◌∷◌, true, false, IfOk, IfErr, IfSome, IfNone, MatchOption, OnErr, OnOk, Some, None};
+ghost use Rattle.std.specs.Prelude.{◌≡◌, ◌+◌, ℕ, List, [], ◌∷◌, true, false, IfOk, IfErr, IfSome, MatchOption, OnErr, OnOk, Some};
 ghost use Rattle.std.specs.List.{list_any};
-ghost use Rattle.std.specs.Map.{keys_of, lookup};
+ghost use Rattle.std.specs.Map.{keys_of};
 ghost use Rattle.lru.specs.LruCache.{IsValid};
 ghost use Rattle.wu_lists.specs.Ascending.{AscendBetween};
-ghost use Rattle.wu_lists.specs.Blocks.{HasBytes, IsSpelledIn, IsSpelling, bytes_of};
+ghost use Rattle.wu_lists.specs.Blocks.{IsSpelledIn, IsSpelling, bytes_of};
 ghost use Rattle.wu_lists.specs.Causes.{IsCause};
 ghost use Rattle.wu_lists.specs.Keeping.{AreHeld, Asks, AsksFirst, IsChecked, all_missing, asked, is_same};
 
-use crate::blocks::{Block, check, checked, read_bytes};
+use crate::blocks::{Block, check, read_bytes};
 use crate::lists::Lists;
 use std::alloc::Global;
 use std::mem;
@@ -16,7 +16,7 @@ use wu_base::{Bytes, NoMemory, Trouble};
 use wu_outside::Store;
 
 impl Lists {
-    /// The addresses of the block, which is read where it isn't kept.
+    /// The addresses of the block, which is asked for.
     #[inline]
     pub(crate) fn addresses<D: Store>(
         &mut self,
@@ -37,15 +37,32 @@ impl Lists {
             (IfSome (D.holds store.old) (λ content. IsSpelledIn content block.now → ⊥))
             (D.faults store.old) (D.faults store.new) (D.reads store.old) (D.reads store.new)) }
     {
-        match self.kept_addresses(block)? {
-            Some(addresses) => Ok(addresses),
-            None => self.read(store, block),
+        self.ask(store, block)?;
+        Ok(block.addresses(self.alloc, self.first_kept(block))?)
+    }
+
+    /// Asks for the block, which is read where it isn't kept. It is then the one that was asked for last.
+    #[inline]
+    pub(crate) fn ask<D: Store>(&mut self, store: &mut D, block: &Block) -> Result<(), Trouble>
+        ensures blocks { OnOk result (Asks (block.now ∷ []) (D.holds store.old) self.old self.new
+            (D.reads store.old) (D.reads store.new)) }
+        ensures kept { OnErr result (AsksFirst (block.now ∷ []) (D.holds store.old) self.old self.new) }
+        ensures holds { D.holds store.new ≡ D.holds store.old }
+        ensures moments { D.moments store.new ≡ D.moments store.old }
+        ensures calm { OnOk result (D.faults store.new ≡ D.faults store.old) }
+        ensures cause { IfErr result (IsCause (all_missing self.old.cap (keys_of self.old.entries) (block.now ∷ [])) block.now.blob
+            (IfSome (D.holds store.old) (λ content. IsSpelledIn content block.now → ⊥))
+            (D.faults store.old) (D.faults store.new) (D.reads store.old) (D.reads store.new)) }
+    {
+        if self.is_kept(block) {
+            return Ok(());
         }
+        self.load(store, block)
     }
 
     /// Whether the block is kept. It is then the one that was asked for last.
     #[inline]
-    pub(crate) fn is_kept(&mut self, block: &Block) -> bool
+    fn is_kept(&mut self, block: &Block) -> bool
         ensures kept { result ≡ list_any (is_same block.now) (keys_of self.old.entries) }
         ensures asked { result ≡ true → keys_of self.new.entries ≡ asked self.old.cap (keys_of self.old.entries) block.now }
         ensures absent { result ≡ false → self.new ≡ self.old }
@@ -77,29 +94,8 @@ impl Lists {
         let _count = self.kept.len();
     }
 
-    /// The addresses of the block where it is kept. It is then the one that was asked for last.
-    #[inline]
-    fn kept_addresses(&mut self, block: &Block) -> Result<Option<Vec<u64>>, NoMemory>
-        ensures spelled { IfOk result (λ kept. IfSome kept (λ found. (bytes : List ℕ)
-            × (lookup (is_same block.now) self.old.entries ≡ Some bytes) × IsSpelling block.now found.items bytes)) }
-        ensures asked { IfOk result (λ kept. IfSome kept (λ _.
-            keys_of self.new.entries ≡ asked self.old.cap (keys_of self.old.entries) block.now)) }
-        ensures absent { IfOk result (λ kept. IfNone kept
-            ((lookup (is_same block.now) self.old.entries ≡ None) × (self.new ≡ self.old))) }
-        ensures err { OnErr result (keys_of self.new.entries ≡ asked self.old.cap (keys_of self.old.entries) block.now) }
-        ensures capacity { self.new.cap ≡ self.old.cap }
-        ensures held { (blob : ℕ) (bytes : List ℕ) → AreHeld blob bytes self.old → AreHeld blob bytes self.new }
-    {
-        self.is_valid();
-        let Some(bytes) = self.kept.get(block) else {
-            return Ok(None);
-        };
-        // They were checked before they were kept.
-        block.addresses(self.alloc, bytes.as_slice())
-    }
-
     /// Reads, checks and keeps a block that isn't kept. After an error the same ones are kept as before.
-    pub(crate) fn load<D: Store>(&mut self, store: &mut D, block: &Block) -> Result<(), Trouble>
+    fn load<D: Store>(&mut self, store: &mut D, block: &Block) -> Result<(), Trouble>
         requires { list_any (is_same block.now) (keys_of self.old.entries) ≡ false }
         ensures blocks { OnOk result (Asks (block.now ∷ []) (D.holds store.old) self.old self.new
             (D.reads store.old) (D.reads store.new)) }
@@ -116,33 +112,6 @@ impl Lists {
         check(block, &bytes)?;
         self.keep(block, bytes)?;
         Ok(())
-    }
-
-    /// The same, and gives the block's addresses.
-    pub(crate) fn read<D: Store>(
-        &mut self,
-        store: &mut D,
-        block: &Block,
-    ) -> Result<Vec<u64>, Trouble>
-        requires { list_any (is_same block.now) (keys_of self.old.entries) ≡ false }
-        ensures spelled { IfOk result (λ found. (bytes : List ℕ) × IsSpelling block.now found.items bytes
-            × IfSome (D.holds store.old) (λ content. HasBytes content block.now bytes)) }
-        ensures blocks { OnOk result (Asks (block.now ∷ []) (D.holds store.old) self.old self.new
-            (D.reads store.old) (D.reads store.new)) }
-        ensures err { OnErr result (self.new ≡ self.old) }
-        ensures holds { D.holds store.new ≡ D.holds store.old }
-        ensures moments { D.moments store.new ≡ D.moments store.old }
-        ensures calm { OnOk result (D.faults store.new ≡ D.faults store.old) }
-        ensures cause { IfErr result (IsCause (block.now ∷ []) block.now.blob
-            (IfSome (D.holds store.old) (λ content. IsSpelledIn content block.now → ⊥))
-            (D.faults store.old) (D.faults store.new) (D.reads store.old) (D.reads store.new)) }
-    {
-        let room = self.take_room();
-        let bytes = read_bytes(store, block, room)?;
-        let found = block.addresses(self.alloc, &bytes)?;
-        let addresses = checked(block, found)?;
-        self.keep(block, bytes)?;
-        Ok(addresses)
     }
 
     /// A vector to read a block to.

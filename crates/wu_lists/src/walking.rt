@@ -179,25 +179,6 @@ impl Lists {
         }
     }
 
-    /// Asks for the block.
-    #[inline]
-    fn ask<D: Store>(&mut self, store: &mut D, block: &Block) -> Result<(), Trouble>
-        ensures blocks { OnOk result (Asks (block.now ∷ []) (D.holds store.old) self.old self.new
-            (D.reads store.old) (D.reads store.new)) }
-        ensures kept { OnErr result (AsksFirst (block.now ∷ []) (D.holds store.old) self.old self.new) }
-        ensures holds { D.holds store.new ≡ D.holds store.old }
-        ensures moments { D.moments store.new ≡ D.moments store.old }
-        ensures calm { OnOk result (D.faults store.new ≡ D.faults store.old) }
-        ensures cause { IfErr result (IsCause (all_missing self.old.cap (keys_of self.old.entries) (block.now ∷ [])) block.now.blob
-            (IfSome (D.holds store.old) (λ content. IsSpelledIn content block.now → ⊥))
-            (D.faults store.old) (D.faults store.new) (D.reads store.old) (D.reads store.new)) }
-    {
-        if self.is_kept(block) {
-            return Ok(());
-        }
-        self.load(store, block)
-    }
-
     /// The sink gains the addresses of the block, and none after an error.
     #[inline]
     fn put_block<D: Store, S: AddressSink>(

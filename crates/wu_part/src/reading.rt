@@ -5,7 +5,6 @@ ghost use Rattle.std.specs.Cmp.Lexicographic.{slice_cmp};
 ghost use Rattle.std.specs.Ordering.{nat_cmp};
 ghost use Rattle.wu_base.specs.declared.limits.TheConstants.{ADDRESSES_MAX, GENERATION_MAX};
 ghost use Rattle.wu_vbyte.specs.Blocks.{SpellsBlock, AreFromTo};
-ghost use Rattle.wu_vbyte.specs.Numbers.{StartsWithNumber};
 ghost use Rattle.wu_part.specs.declared.entries.TermEntry.{TermEntry};
 ghost use Rattle.wu_part.specs.Directories.{PartDirectory, SpellsDirectory};
 ghost use Rattle.wu_part.specs.Entries.{StartsWithHead, IsNextEntry, HasFirstEntry, HasAnEntry, AreEntries, PassesEntry, IsWhole};
@@ -110,8 +109,8 @@ fn directory_with(checked: Checked, bytes: Vec<u8>, size: u64) -> Directory
 }
 
 /// The block's `count` addresses, of which the bytes are the spelling, all of the bytes; `low` is the
-/// part's lowest address. `None` exactly where they are no such spelling. Takes memory once at most, and only where the
-/// bytes are enough for so many addresses and start with the number of the first one.
+/// part's lowest address. `None` exactly where they are no such spelling. Takes memory once at most, and only
+/// where they are.
 pub fn read_block(
     alloc: Global,
     bytes: &[u8],
@@ -123,8 +122,8 @@ pub fn read_block(
         × AreFromTo count entry.now.first entry.now.last found.items)) }
     ensures none { IfOk result (λ block. IfNone block ((addresses : List ℕ) → SpellsBlock low addresses bytes.now
         → AreFromTo count entry.now.first entry.now.last addresses → ⊥)) }
-    ensures err { OnErr result ((0 < count) × (count ≤ length bytes.now) × (entry.now.first ≤ entry.now.last) × (low ≤ entry.now.first)
-        × ((rest : List ℕ) × StartsWithNumber bytes.now (entry.now.first - low) rest)) }
+    ensures err { OnErr result ((addresses : List ℕ) × SpellsBlock low addresses bytes.now
+        × AreFromTo count entry.now.first entry.now.last addresses) }
 {
     take_block(alloc, bytes, low, count, entry.first, entry.last)
 }

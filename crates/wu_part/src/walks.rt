@@ -14,7 +14,6 @@ use crate::cursors::Entry;
 use crate::entry_reading::{take_count, take_entry, take_term};
 use crate::marks::Mark;
 use crate::reading::Head;
-use std::cmp::Ordering;
 use std::marker::Model;
 
 /// The entries that are left of a walk over a directory's, in order. Contracts see the list of them.
@@ -130,11 +129,11 @@ pub(crate) fn entry_among<'a>(mut terms: Terms<'a>, term: &[u8]) -> Option<Entry
     let Some(entry) = terms.first() else {
         return None;
     };
-    match entry.term().cmp(&term) {
-        Ordering::Equal => Some(entry),
-        // All entries before the term were passed.
-        Ordering::Less => None,
-        Ordering::Greater => None,
+    // No entry before the term is left.
+    if entry.term() == term {
+        Some(entry)
+    } else {
+        None
     }
 }
 

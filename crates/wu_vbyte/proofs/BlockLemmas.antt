@@ -217,6 +217,17 @@ later_of_block low count first last (address ∷ later) bytes rest s b f =
     let one = one_number bytes (first - low) (first - low) b.1 rest (rw same at b.2) s in
     (same, rw (same, one.1) at b.3)
 
+pub later_within : (count first last : ℕ) (all bytes : List ℕ) → SpellsAfterFirst first all bytes → AreFromTo count first last all
+    → first ≤ last
+later_within count first last [] bytes b f = absurd b
+later_within count first last (address ∷ later) bytes b f =
+    let more = gaps_within address last later bytes (rw (sym b.0) at b.1) f.end in rw b.0 at more
+
+pub later_counted : (count first last : ℕ) (all bytes : List ℕ) → SpellsAfterFirst first all bytes → AreFromTo count first last all
+    → 0 < count
+later_counted count first last [] bytes b f = absurd b
+later_counted count first last (address ∷ later) bytes b f = omega (arith, f.number)
+
 -- the addresses that were taken, of which the last is before, and the bytes that are left for the later ones
 pub record Taken (first last : ℕ) (bytes rest taken : List ℕ) (before : ℕ) : Type 0 where
   pub within : before ≤ last
@@ -273,6 +284,26 @@ pub taken_all : (count first limit last : ℕ) (bytes taken : List ℕ) (before 
     → length taken ≡ count → before ≡ last → SpellsAfterFirst first taken bytes × AreFromTo count first last taken
 taken_all count first limit last bytes taken before t number same =
     (rw (append-nil taken) at (t.on [] refl), record { number = number; begin = t.begin; end = t.end ∙ ap Some same })
+
+-- as many addresses are taken as the block has: they are its addresses
+pub taken_whole : (count first limit last : ℕ) (bytes rest taken all : List ℕ) (before : ℕ) → Taken first limit bytes rest taken before
+    → length taken ≡ count → SpellsAfterFirst first all bytes → AreFromTo count first last all → taken ≡ all
+taken_whole count first limit last bytes rest taken all before t number b f = let h = t.back all b in whole h.0 h.1
+  where
+    whole : (later : List ℕ) → all ≡ taken ++ later → taken ≡ all
+    whole [] is = sym (is ∙ append-nil taken)
+    whole (a ∷ later) is =
+        let longer : length all ≡ length taken + length (a ∷ later) = rw is (length-append taken (a ∷ later)) in
+        absurd (omega (arith, f.number))
+
+-- all bytes are taken: so are the block's addresses
+pub taken_end : (first limit : ℕ) (bytes taken all : List ℕ) (before : ℕ) → Taken first limit bytes [] taken before
+    → SpellsAfterFirst first all bytes → taken ≡ all
+taken_end first limit bytes taken all before t b = let h = t.back all b in whole h.0 h.1 h.2
+  where
+    whole : (later : List ℕ) → all ≡ taken ++ later → SpellsGaps before later [] → taken ≡ all
+    whole [] is g = sym (is ∙ append-nil taken)
+    whole (a ∷ later) is g = absurd (starts_not_empty (a - before) g.1 g.2)
 
 -- all addresses are taken, and either bytes are left or the last address is another one
 pub taken_not_all : (count first last : ℕ) (bytes rest taken : List ℕ) (before : ℕ) → Taken first last bytes rest taken before

@@ -1,12 +1,12 @@
 -- Lemmas on blocks of short numbers.
-use Rattle.std.proofs.Common.{◌≡◌, ℕ, Bool, true, false, MatchBool, ◌+◌, ◌-◌, ◌*◌, ◌%◌, ◌<◌, ◌≤◌, ◌⊎◌, ⊎_elim, inl, inr, List, [], ◌∷◌}
+use Rattle.std.proofs.Common.{◌≡◌, ℕ, nat_eq, Bool, true, false, MatchBool, ◌+◌, ◌-◌, ◌*◌, ◌%◌, ◌<◌, ◌≤◌, ◌⊎◌, ⊎_elim, inl, inr, List, [], ◌∷◌}
 use Rattle.std.proofs.Common.{◌++◌, length, set, take, drop}
 use Rattle.std.proofs.Common.{refl, ap, sym, ◌∙◌, arith, length-append}
-use Rattle.std.proofs.lemmas.Bool.{cases_lt}
+use Rattle.std.proofs.lemmas.Bool.{cases_lt, eqb-false, eqb-true}
 use Rattle.std.proofs.lemmas.List.{at_drop_all, take-set, take_more_set}
 use Rattle.wu_vbyte.specs.Blocks.{SpellsGaps, SpellsAfterFirst, AreFromTo, AreShort, AreSingle}
 use Rattle.wu_vbyte.proofs.NumberLemmas.{last_starts, more_starts, starts_not_empty, starts_with_last, starts_with_more}
-use Rattle.wu_vbyte.proofs.BlockLemmas.{Taken, taken_next, taken_all, taken_other, starts_length, gaps_length}
+use Rattle.wu_vbyte.proofs.BlockLemmas.{Taken, taken_next, taken_all, taken_end, taken_other, starts_length, gaps_length}
 
 -- what was taken, and the sum after the byte before, which is part of a number that goes on where its top bit is set
 abbrev pub Summed : ℕ → ℕ → List ℕ → List ℕ → List ℕ → ℕ → ℕ → Type 0
@@ -59,33 +59,22 @@ summed_next first last bytes left items taken before byte total more ended s sho
     (summed_more first last bytes left _ before byte total more s h top short.1 one))
     (cases_lt byte 128)
 
-pub summed_all : (count first limit last : ℕ) (bytes items found : List ℕ) (place taken byte total : ℕ)
-    → Summed first limit bytes (drop place bytes) (take taken items) byte total → length bytes ≤ place → byte < 128 → total ≡ last
-    → length found ≡ count → found ≡ take taken items → SpellsAfterFirst first found bytes × AreFromTo count first last found
-summed_all count first limit last bytes items found place taken byte total (inl s) over small same number is =
-    rw is (taken_all count first limit last bytes (take taken items) total (rw (at_drop_all (λ left. left) bytes place over) at s.1)
-    (rw is at number) same)
-summed_all count first limit last bytes items found place taken byte total (inr s) over small same number is =
-    let large = s.0 in absurd (omega arith)
-
 half_number : (sum byte : ℕ) (later : List ℕ) → 128 ≤ byte → SpellsGaps sum later (byte ∷ []) → ⊥
 half_number sum byte [] large g = absurd cc
 half_number sum byte (a ∷ later) large g =
     let more = starts_with_more byte (a - sum) [] g.1 large g.2 in
     starts_not_empty more.0 g.1 more.3
 
--- no block is spelled where a number goes on at the end, or what was summed is another one
-pub summed_other : (count first limit last : ℕ) (bytes items : List ℕ) (place taken byte total : ℕ)
-    → Summed first limit bytes (drop place bytes) (take taken items) byte total → length bytes ≤ place
-    → (byte < 128 → length (take taken items) ≡ count → total ≡ last → ⊥)
-    → (all : List ℕ) → SpellsAfterFirst first all bytes → AreFromTo count first last all → ⊥
-summed_other count first limit last bytes items place taken byte total (inl s) over other all b f =
-    taken_other count first limit last bytes (take taken items) total (rw (at_drop_all (λ left. left) bytes place over) at s.1)
-    (other s.0) all b f
-summed_other count first limit last bytes items place taken byte total (inr (large, top, sum, e, t)) over other all b f =
+-- after all bytes, what was taken is the whole block
+pub summed_whole : (first limit : ℕ) (bytes items all : List ℕ) (place taken byte total : ℕ)
+    → Summed first limit bytes (drop place bytes) (take taken items) byte total → length bytes ≤ place → SpellsAfterFirst first all bytes
+    → take taken items ≡ all
+summed_whole first limit bytes items all place taken byte total (inl s) over b =
+    taken_end first limit bytes (take taken items) all total (rw (at_drop_all (λ left. left) bytes place over) at s.1) b
+summed_whole first limit bytes items all place taken byte total (inr (large, top, sum, e, t)) over b =
     let end = rw (at_drop_all (λ left. left) bytes place over) at t in
     let h = end.back all b in
-    half_number sum byte h.0 large h.2
+    absurd (half_number sum byte h.0 large h.2)
 
 -- so many addresses were taken, which aren't kept
 abbrev pub Counted : ℕ → ℕ → List ℕ → List ℕ → ℕ → ℕ → ℕ → Type 0
@@ -149,25 +138,33 @@ block_single count first last [] bytes b f number short = absurd b
 block_single count first last (address ∷ later) bytes b f number short =
     gaps_single 0 first later bytes b.1 (omega (arith, f.number)) short
 
--- what is said of all bytes, after those that were looked at, where the rest is what is said of those that are left
-pub record Passed (passed : Bool) (All Rest : Type 0) : Type 0 where
-  pub on : MatchBool passed (Rest → All) (All → ⊥)
+-- so many faults were found in the bytes that were looked at: what is said of all bytes, and of those that are left
+pub record Passed (faults : ℕ) (All Rest : Type 0) : Type 0 where
+  pub none : faults ≡ 0 → Rest → All
+  pub some : 0 < faults → All → ⊥
   pub back : All → Rest
 
-pub passed_first : (All : Type 0) → Passed true All All
-passed_first All = record { on = λ all. all; back = λ all. all }
+pub passed_first : (All : Type 0) → Passed 0 All All
+passed_first All = record { none = λ e all. all; some = λ over all. absurd (omega arith); back = λ all. all }
 
-pub passed_next : (passed next : Bool) (All Some Small Later : Type 0) → Passed passed All (Some × Small × Later)
-    → MatchBool next ((passed ≡ true) × Some × Small) (passed ≡ true → Some × Small → ⊥) → Passed next All Later
-passed_next true true All Some Small Later p h = record { on = λ later. p.on (h.1, h.2, later); back = λ all. (p.back all).2 }
-passed_next true false All Some Small Later p h =
-    record { on = λ all. h refl ((p.back all).0, (p.back all).1); back = λ all. (p.back all).2 }
-passed_next false true All Some Small Later p h = let e = h.0 in absurd cc
-passed_next false false All Some Small Later p h = record { on = p.on; back = λ all. (p.back all).2 }
+pub passed_next : (faults fault : ℕ) (All Some Small Later : Type 0) → Passed faults All (Some × Small × Later)
+    → (fault ≡ 0 → Some × Small) → (0 < fault → Some → Small → ⊥) → Passed (faults + fault) All Later
+passed_next faults fault All Some Small Later p none some = record {
+  none = λ e later. let h = none (omega arith) in p.none (omega arith) (h.0, h.1, later);
+  some = λ over all.
+      ⊎_elim
+      (λ (h : faults < 1). some (omega arith) (p.back all).0 (p.back all).1)
+      (λ (h : 1 ≤ faults). p.some (omega arith) all)
+      (cases_lt faults 1);
+  back = λ all. (p.back all).2;
+}
 
-pub passed_all : (passed : Bool) (All Rest : Type 0) → Passed passed All Rest → Rest → MatchBool passed All (All → ⊥)
-passed_all true All Rest p rest = p.on rest
-passed_all false All Rest p rest = p.on
+pub passed_all : (faults : ℕ) (All Rest : Type 0) → Passed faults All Rest → Rest → MatchBool (nat_eq faults 0) All (All → ⊥)
+passed_all faults All Rest p rest = told (nat_eq faults 0) refl
+  where
+    told : (b : Bool) → nat_eq faults 0 ≡ b → MatchBool b All (All → ⊥)
+    told true e = p.none (eqb-true faults 0 e) rest
+    told false e = let other = eqb-false faults 0 e in p.some (⊎_elim (λ (h : faults < 1). absurd (other (omega arith))) (λ h. h) (cases_lt faults 1))
 
 -- a byte that is a number
 pub single_next : (first last : ℕ) (bytes left items : List ℕ) (place byte total more : ℕ)

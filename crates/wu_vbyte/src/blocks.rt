@@ -6,7 +6,7 @@ ghost use Rattle.wu_vbyte.specs.Numbers.{StartsWithNumber};
 ghost use Rattle.wu_vbyte.specs.Blocks.{SpellsBlock, SpellsAfterFirst, AppendsBlock, AreFromTo};
 
 use crate::numbers::{next_number, put_number};
-use crate::short::{is_short, take_short};
+use crate::short::{are_small, decode_short, is_short};
 use std::alloc::Global;
 use wu_base::NoMemory;
 
@@ -47,38 +47,8 @@ fn append_gaps(out: &mut Vec<u8>, low: u64, addresses: &[u64]) -> Result<(), NoM
     Ok(())
 }
 
-/// The `count` addresses from `first` to `last` of which the bytes are the spelling, all of the bytes. The
-/// first is counted from `low`.
-/// `None` exactly where they are no such spelling. Takes memory once at most, and only where the bytes
-/// are enough for so many addresses and start with the number of the first one.
-pub fn take_block(
-    alloc: Global,
-    bytes: &[u8],
-    low: u64,
-    count: usize,
-    first: u64,
-    last: u64,
-) -> Result<Option<Vec<u64>>, NoMemory>
-    ensures found { IfOk result (λ block. IfSome block (λ found. SpellsBlock low found.items bytes.now × AreFromTo count first last found.items)) }
-    ensures none { IfOk result (λ block. IfNone block ((addresses : List ℕ) → SpellsBlock low addresses bytes.now →
-        AreFromTo count first last addresses → ⊥)) }
-    ensures err { OnErr result ((0 < count) × (count ≤ length bytes.now) × (first ≤ last) × (low ≤ first)
-        × ((rest : List ℕ) × StartsWithNumber bytes.now (first - low) rest)) }
-{
-    if !is_enough(bytes.len(), count) {
-        return Ok(None);
-    }
-    if last < first {
-        return Ok(None);
-    }
-    match after_first(bytes, low, first) {
-        Some(rest) => take_later(alloc, rest, count, first, last),
-        None => Ok(None),
-    }
-}
-
-/// Whether the bytes are the spelling of `count` addresses from `first` to `last`, all of the bytes: where
-/// [`take_block`] finds a block. Takes no memory.
+/// Whether the bytes are the spelling of `count` addresses from `first` to `last`, all of the bytes. The first is
+/// counted from `low`. Takes no memory.
 pub fn is_block(bytes: &[u8], low: u64, count: usize, first: u64, last: u64) -> bool
     ensures { MatchBool result ((addresses : List ℕ) × SpellsBlock low addresses bytes.now × AreFromTo count first last addresses)
         ((addresses : List ℕ) → SpellsBlock low addresses bytes.now → AreFromTo count first last addresses → ⊥) }
@@ -90,9 +60,51 @@ pub fn is_block(bytes: &[u8], low: u64, count: usize, first: u64, last: u64) -> 
         return false;
     }
     match after_first(bytes, low, first) {
-        Some(rest) => is_short(rest, count, first, last) || are_gaps(rest, count, first, last),
+        Some(rest) => are_later(rest, count, first, last),
         None => false,
     }
+}
+
+/// The addresses of the block that the bytes spell, which were checked by [`is_block`]. Takes memory once. Out of
+/// memory is the one error.
+pub fn decode_block(
+    alloc: Global,
+    bytes: &[u8],
+    low: u64,
+    count: usize,
+    first: u64,
+    last: u64,
+) -> Result<Vec<u64>, NoMemory>
+    requires { (addresses : List ℕ) × SpellsBlock low addresses bytes.now × AreFromTo count first last addresses }
+    ensures { IfOk result (λ found. SpellsBlock low found.items bytes.now × AreFromTo count first last found.items) }
+{
+    let Some(rest) = after_first(bytes, low, first) else {
+        unreachable!()
+    };
+    decode_later(alloc, rest, count, first, last)
+}
+
+/// The `count` addresses from `first` to `last` of which the bytes are the spelling, all of the bytes. The first is
+/// counted from `low`. `None` exactly where they are no such spelling: see [`is_block`]. Takes memory once at
+/// most, and only where they are.
+pub fn take_block(
+    alloc: Global,
+    bytes: &[u8],
+    low: u64,
+    count: usize,
+    first: u64,
+    last: u64,
+) -> Result<Option<Vec<u64>>, NoMemory>
+    ensures found { IfOk result (λ block. IfSome block (λ found. SpellsBlock low found.items bytes.now × AreFromTo count first last found.items)) }
+    ensures none { IfOk result (λ block. IfNone block ((addresses : List ℕ) → SpellsBlock low addresses bytes.now →
+        AreFromTo count first last addresses → ⊥)) }
+    ensures err { OnErr result ((addresses : List ℕ) × SpellsBlock low addresses bytes.now
+        × AreFromTo count first last addresses) }
+{
+    if !is_block(bytes, low, count, first, last) {
+        return Ok(None);
+    }
+    Ok(Some(decode_block(alloc, bytes, low, count, first, last)?))
 }
 
 /// Whether so many bytes may hold so many addresses, which take a byte each at least.
@@ -156,64 +168,68 @@ fn is_gap(number: u64, room: u64) -> bool
     0 < number && number <= room
 }
 
-/// The block of `count` addresses from `first` to `last`; the bytes spell those after the first one.
-fn take_later(
-    alloc: Global,
-    bytes: &[u8],
-    count: usize,
-    first: u64,
-    last: u64,
-) -> Result<Option<Vec<u64>>, NoMemory>
+/// Whether the bytes are those of a block of `count` addresses from `first` to `last` after the first number.
+fn are_later(bytes: &[u8], count: usize, first: u64, last: u64) -> bool
     requires count { 0 < count }
     requires within { first ≤ last }
-    ensures found { IfOk result (λ block. IfSome block (λ found. SpellsAfterFirst first found.items bytes.now
-        × AreFromTo count first last found.items)) }
-    ensures none { IfOk result (λ block. IfNone block ((addresses : List ℕ) → SpellsAfterFirst first addresses bytes.now →
-        AreFromTo count first last addresses → ⊥)) }
+    ensures { MatchBool result
+        ((found : List ℕ) × SpellsAfterFirst first found bytes.now × AreFromTo count first last found)
+        ((addresses : List ℕ) → SpellsAfterFirst first addresses bytes.now
+        → AreFromTo count first last addresses → ⊥) }
 {
-    match take_short(alloc, bytes, count, first, last)? {
-        Some(block) => Ok(Some(block)),
-        None => take_gaps(alloc, bytes, count, first, last),
+    if are_small(bytes, first) {
+        is_short(bytes, count, first, last)
+    } else {
+        are_gaps(bytes, count, first, last)
     }
 }
 
-/// The block of `count` addresses from `first` to `last`, number by number.
-fn take_gaps(
+/// The addresses of a block of which the bytes are the spelling after the first number. Out of memory is the one
+/// error.
+fn decode_later(
     alloc: Global,
     bytes: &[u8],
     count: usize,
     first: u64,
     last: u64,
-) -> Result<Option<Vec<u64>>, NoMemory>
-    requires count { 0 < count }
-    requires within { first ≤ last }
-    ensures found { IfOk result (λ block. IfSome block (λ found. SpellsAfterFirst first found.items bytes.now
-        × AreFromTo count first last found.items)) }
-    ensures none { IfOk result (λ block. IfNone block ((addresses : List ℕ) → SpellsAfterFirst first addresses bytes.now →
-        AreFromTo count first last addresses → ⊥)) }
+) -> Result<Vec<u64>, NoMemory>
+    requires { (addresses : List ℕ) × SpellsAfterFirst first addresses bytes.now × AreFromTo count first last addresses }
+    ensures { IfOk result (λ found. SpellsAfterFirst first found.items bytes.now × AreFromTo count first last found.items) }
+{
+    if are_small(bytes, first) {
+        decode_short(alloc, bytes, count, first, last)
+    } else {
+        decode_gaps(alloc, bytes, count, first, last)
+    }
+}
+
+/// The same, number by number.
+fn decode_gaps(
+    alloc: Global,
+    bytes: &[u8],
+    count: usize,
+    first: u64,
+    last: u64,
+) -> Result<Vec<u64>, NoMemory>
+    requires { (addresses : List ℕ) × SpellsAfterFirst first addresses bytes.now × AreFromTo count first last addresses }
+    ensures { IfOk result (λ found. SpellsAfterFirst first found.items bytes.now × AreFromTo count first last found.items) }
 {
     let mut addresses = Vec::with_capacity(alloc, count)?;
     addresses.push_reserved(first);
     let mut rest = bytes;
     let mut before = first;
     for _ in 1..count {
-        let (address, after) = match next_address(rest, before, last) {
-            Some(next) => next,
-            None => return Ok(None),
+        let Some((address, after)) = next_address(rest, before, last) else {
+            unreachable!()
         };
         addresses.push_reserved(address);
         before = address;
         rest = after;
     }
-    if is_complete(rest, last, before) {
-        Ok(Some(addresses))
-    } else {
-        Ok(None)
-    }
+    Ok(addresses)
 }
 
-/// Whether the bytes are those of a block of `count` addresses from `first` to `last` after the first number,
-/// number by number.
+/// The same as [`are_later`], number by number.
 fn are_gaps(bytes: &[u8], count: usize, first: u64, last: u64) -> bool
     requires count { 0 < count }
     requires within { first ≤ last }

@@ -8,8 +8,8 @@ mod numbers;
 mod short;
 
 pub use blocks::{
-    BLOCK_LEN, each_block_has_one_spelling, is_block, no_block_begins_another, put_block,
-    take_block,
+    BLOCK_LEN, decode_block, each_block_has_one_spelling, is_block, no_block_begins_another,
+    put_block, take_block,
 };
 pub use numbers::{
     each_number_has_one_spelling, next_large, next_number, no_number_begins_another, put_number,

@@ -17,18 +17,18 @@ returns-then-not-is_needed c =
 
 pub put_within-requires-clause-ascend : goal.put_within-requires-clause-ascend
 put_within-requires-clause-ascend c =
-    let spelled = rw c.in-Some.is at c.in_ok-addresses.ensures.found in
+    let spelled = c.in_ok-addresses.ensures in
     rw c.deref.ensures.value
     (subst (AscendBetween 0 (2 ^ 64 - 1))
-    (sym (found-there c.args.bytes.now c.args.block.now c.in-Some.addresses.items (bytes_of c.args.block.now c.args.bytes.now) refl spelled))
+    (sym (found-there c.args.bytes.now c.args.block.now c.in_ok-addresses.addresses.items (bytes_of c.args.block.now c.args.bytes.now) refl spelled))
     c.requires.ascend)
 
-pub returns-in-Some : goal.returns-in-Some
-returns-in-Some c =
-    let spelled = rw c.in-Some.is at c.in_ok-addresses.ensures.found in
+pub returns : goal.returns
+returns c =
+    let spelled = c.in_ok-addresses.ensures in
     let same : c.deref.result.now ≡ addresses_at c.args.bytes.now c.args.block.now =
     c.deref.ensures.value
-    ∙ found-there c.args.bytes.now c.args.block.now c.in-Some.addresses.items (bytes_of c.args.block.now c.args.bytes.now) refl spelled in
+    ∙ found-there c.args.bytes.now c.args.block.now c.in_ok-addresses.addresses.items (bytes_of c.args.block.now c.args.bytes.now) refl spelled in
     on_ok_weaker c.put_within.result
     (λ made. made ∙ ap (λ (l : List ℕ). c.args.found.now.items ++ filter (is_live c.args.frames.now) l) same)
     c.put_within.ensures.ok

@@ -8,11 +8,11 @@ returns-then-not-is_enough c addresses b f = not_enough _ _ _ _ _ _ c.if-not-is_
 pub returns-then-last-first : goal.returns-then-last-first
 returns-then-last-first c addresses b f = let h = block_first _ _ _ _ _ _ b f in absurd (omega (arith, h.1))
 
-pub returns-else-is_short : goal.returns-else-is_short
-returns-else-is_short c =
+pub returns-in-Some : goal.returns-in-Some
+returns-in-Some c =
     let first = c.in-Some.ensures.found in
-    match_weaker c.are_gaps.result (λ h. (h.0, block_of_later _ _ _ _ _ first.0 first.1 h.1, h.2))
-    (λ other addresses b f. other addresses (later_of_block _ _ _ _ _ _ _ first.1 b f) f) c.are_gaps.ensures
+    match_weaker c.are_later.result (λ h. (h.0, block_of_later _ _ _ _ _ first.0 first.1 h.1, h.2))
+    (λ other addresses b f. other addresses (later_of_block _ _ _ _ _ _ _ first.1 b f) f) c.are_later.ensures
 
 pub returns-in-None : goal.returns-in-None
 returns-in-None c addresses b f = let h = block_first _ _ _ _ _ _ b f in c.in-None.ensures.none h.2 h.0 h.3

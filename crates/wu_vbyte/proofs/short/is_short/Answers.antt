@@ -1,7 +1,7 @@
-use Rattle.std.proofs.Common.{◌≡◌, ◌+◌, ◌-◌, ◌*◌, ◌^◌, ◌≤◌, length, refl, inl, arith}
+use Rattle.std.proofs.Common.{◌+◌, ◌-◌, ◌*◌, ◌^◌, refl, inl, arith}
 use Rattle.std.proofs.lemmas.List.{at_drop_all, drop_more}
-use Rattle.wu_vbyte.proofs.BlockLemmas.{taken_first}
-use Rattle.wu_vbyte.proofs.ShortLemmas.{counted_all, counted_as, counted_next, counted_other, Counted}
+use Rattle.wu_vbyte.proofs.BlockLemmas.{match_weaker, taken_first}
+use Rattle.wu_vbyte.proofs.ShortLemmas.{counted_all, counted_as, counted_next, counted_other}
 use Rattle.wu_vbyte.proofs.short.is_short.Goals as goal
 
 pub loop-at-init : goal.loop-at-init
@@ -9,7 +9,7 @@ loop-at-init c = record {
   all = omega arith;
   high = omega arith;
   unended = omega arith;
-  short = c.if-not-are_short.ensures;
+  short = c.requires.short;
   counted = counted_as _ _ _ _ 1 _ _ c.args.first _ (omega arith) (omega arith)
       (_, refl, inl (omega arith, taken_first c.args.first (2 ^ 64) c.args.bytes.now (omega arith)));
 }
@@ -35,19 +35,18 @@ loop-at-preserved c =
           (λ h. omega (arith, c.bits-all.ensures, c.high_bits-high.ensures.small h))
           (λ h. omega (arith, c.bits-all.ensures, c.high_bits-high.ensures.large h))
           (omega (arith, i.all, i.high, c.bits-all.ensures, c.high_bits-high.ensures.below))
-          (λ h. omega (arith, c.goes_on-unended.ensures.one h)) (λ h. omega (arith, c.goes_on-unended.ensures.none h)));
+          (λ h. omega (arith, c.goes_on-unended.ensures.none h)) (λ h. omega (arith, c.goes_on-unended.ensures.one h)));
     }
 
-pub returns-clause-found : goal.returns-clause-found
-returns-clause-found c = λ whole.
+pub returns : goal.returns
+returns c =
     let counted = rw (at_drop_all (λ left. left) c.args.bytes.now c.loop-at.at (omega arith)) at c.loop-at.invariant.counted in
-    let is = rw whole at c.is_whole.ensures in
-    counted_all _ _ _ _ _ _ _ _ counted is.0 (omega (arith, is.1, c.from.ensures)) (omega (arith, is.2, c.from-2.ensures, c.from-3.ensures))
-
-pub returns-clause-none : goal.returns-clause-none
-returns-clause-none c = λ other few low short addresses b f.
-    let counted = rw (at_drop_all (λ left. left) c.args.bytes.now c.loop-at.at (omega arith)) at c.loop-at.invariant.counted in
-    let is_other = rw other at c.is_whole.ensures in
+    match_weaker c.is_whole.result
+    (λ whole.
+    counted_all _ _ _ _ _ _ _ _ counted whole.0 (omega (arith, whole.1, c.from.ensures))
+    (omega (arith, whole.2, c.from-2.ensures, c.from-3.ensures)))
+    (λ other addresses b f.
     counted_other _ _ _ _ _ _ _ _ counted
-    (λ end same last. is_other end (omega (arith, same, c.from.ensures)) (omega (arith, last, c.from-2.ensures, c.from-3.ensures)))
-    addresses b f
+    (λ end same last. other end (omega (arith, same, c.from.ensures)) (omega (arith, last, c.from-2.ensures, c.from-3.ensures)))
+    addresses b f)
+    c.is_whole.ensures

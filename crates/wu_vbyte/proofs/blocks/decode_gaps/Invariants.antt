@@ -1,7 +1,7 @@
 use Rattle.std.proofs.Common.{◌≡◌, ◌≤◌, length}
 use Rattle.std.specs.Vec.{vec_len, vec_capacity}
 use Rattle.wu_vbyte.proofs.BlockLemmas.{Taken}
-use Rattle.wu_vbyte.proofs.blocks.take_gaps.Given as goal
+use Rattle.wu_vbyte.proofs.blocks.decode_gaps.Given as goal
 
 abbrev pub invariant-loop : goal.invariant-loop
 invariant-loop l = record {

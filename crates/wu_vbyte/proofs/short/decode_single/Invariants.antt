@@ -1,7 +1,7 @@
 use Rattle.std.proofs.Common.{◌≡◌, ◌+◌, ◌*◌, ◌^◌, ◌≤◌, length, take, drop}
 use Rattle.wu_vbyte.specs.Blocks.{AreSingle}
 use Rattle.wu_vbyte.proofs.BlockLemmas.{Taken}
-use Rattle.wu_vbyte.proofs.short.take_single.Given as goal
+use Rattle.wu_vbyte.proofs.short.decode_single.Given as goal
 
 abbrev pub invariant-loop-at : goal.invariant-loop-at
 invariant-loop-at l = record {
