@@ -3,8 +3,9 @@ use Rattle.std.proofs.Common.{◌≡◌, ℕ, zero, suc, true, false, ◌+◌, �
 use Rattle.std.proofs.Common.{arith}
 use Rattle.std.specs.declared.cmp.Ordering.{Ordering}
 use Rattle.std.specs.declared.cmp.Ordering.TheVariants.{Less, Equal, Greater}
-use Rattle.std.specs.Ordering.{is_lt, nat_cmp, ordering_reverse}
-use Rattle.std.specs.Cmp.Lexicographic.{slice_cmp, nat_list_cmp_total}
+use Rattle.std.specs.Prelude.{nat_eq}
+use Rattle.std.specs.Ordering.{is_eq, is_lt, nat_cmp, ordering_reverse}
+use Rattle.std.specs.Cmp.Lexicographic.{pointwise, slice_cmp, nat_list_cmp_total, texts_ties}
 use Rattle.std.specs.List.{flat_map}
 use Rattle.std.specs.List.Sorted.{IsStrictlySortedBy}
 use Rattle.std.proofs.lemmas.Cmp.{tied_itself}
@@ -152,7 +153,7 @@ first_less term left entry later is before = less (slice_cmp nat_cmp entry.term 
     less Equal e = absurd cc
     less Greater e = absurd cc
 
-pub first_not_less : (term : List ℕ) (left : List TermEntry) (entry : TermEntry) (later : List TermEntry) → left ≡ entry ∷ later
+first_not_less : (term : List ℕ) (left : List TermEntry) (entry : TermEntry) (later : List TermEntry) → left ≡ entry ∷ later
     → begins_before term left ≡ false → slice_cmp nat_cmp entry.term term ≡ Less → ⊥
 first_not_less term left entry later is none less =
     let not_less : is_lt (slice_cmp nat_cmp entry.term term) ≡ false = rw is at none in
@@ -172,7 +173,7 @@ greater_still a b term up above =
     nat_list_cmp_total.antisymm b term ∙ ap ordering_reverse far
 
 -- all entries that are left stand after the term
-pub passed_over : (term : List ℕ) (all : List TermEntry) (first : TermEntry) (later left : List TermEntry) → left ≡ first ∷ later
+passed_over : (term : List ℕ) (all : List TermEntry) (first : TermEntry) (later left : List TermEntry) → left ≡ first ∷ later
     → slice_cmp nat_cmp first.term term ≡ Greater → IsLeftFor term all left
     → (entry : TermEntry) → Contains all entry → entry.term ≡ term → ⊥
 unfolding IsStrictlySortedBy
@@ -190,3 +191,15 @@ passed_over term all first later left e more l entry has same =
     after first [] s more (suc k, inside, is) = absurd (omega arith)
     after first (second ∷ later) s more (suc k, inside, is) =
         after second later s.1 (greater_still first.term second.term term s.0.0 more) (k, omega arith, is)
+
+-- no entry that is left stands before the term, and the first is another
+pub passed_others : (term : List ℕ) (all : List TermEntry) (first : TermEntry) (later left : List TermEntry) → left ≡ first ∷ later
+    → begins_before term left ≡ false → pointwise nat_eq first.term term ≡ false → IsLeftFor term all left
+    → (entry : TermEntry) → Contains all entry → entry.term ≡ term → ⊥
+passed_others term all first later left e none other l = told (slice_cmp nat_cmp first.term term) refl
+  where
+    told : (order : Ordering) → slice_cmp nat_cmp first.term term ≡ order → (entry : TermEntry) → Contains all entry → entry.term ≡ term
+        → ⊥
+    told Less is = absurd (first_not_less term left first later e none is)
+    told Equal is = let wrong : true ≡ false = sym (texts_ties first.term term ∙ ap is_eq is) ∙ other in absurd cc
+    told Greater is = passed_over term all first later left e is l

@@ -1,7 +1,6 @@
 use Rattle.std.proofs.Common.{sym, ◌∙◌}
-use Rattle.wu_part.proofs.SinceLemmas.{none_begins}
-use Rattle.wu_part.proofs.TermLemmas.{same_term}
-use Rattle.wu_part.proofs.WalkLemmas.{first_in_all, first_less, first_not_less, one_passed, passed_over, nothing_left}
+use Rattle.std.specs.Cmp.Lexicographic.{same_text}
+use Rattle.wu_part.proofs.WalkLemmas.{first_in_all, first_less, one_passed, passed_others, nothing_left}
 use Rattle.wu_part.proofs.walks.entry_among.Goals as goal
 
 pub loop-terms-preserved : goal.loop-terms-preserved
@@ -12,13 +11,13 @@ loop-terms-preserved c =
 pub returns-in_default-first : goal.returns-in_default-first
 returns-in_default-first c = nothing_left _ _ _ c.in_default-first.ensures c.loop-terms.invariant
 
-pub returns-in-Equal : goal.returns-in-Equal
-returns-in-Equal c = (
+pub returns-then-eq : goal.returns-then-eq
+returns-then-eq c = (
   first_in_all _ _ _ c.in-Some-first.ensures.0 _ c.in-Some-first.ensures.1 c.loop-terms.invariant,
-  same_term _ _ (sym (rw c.term.ensures at c.in-Equal.ensures)),
+  sym c.term.ensures ∙ same_text _ _ c.if-eq.ensures,
 )
 
-pub returns-in-Greater : goal.returns-in-Greater
-returns-in-Greater c =
-    passed_over _ _ _ c.in-Some-first.ensures.0 _ c.in-Some-first.ensures.1 (sym (rw c.term.ensures at c.in-Greater.ensures))
-    c.loop-terms.invariant
+pub returns-else-eq : goal.returns-else-eq
+returns-else-eq c =
+    passed_others _ _ _ c.in-Some-first.ensures.0 _ c.in-Some-first.ensures.1 (sym c.begins_before.ensures ∙ c.loop-terms-test.false)
+    (rw c.term.ensures at (sym c.if-eq.ensures)) c.loop-terms.invariant
