@@ -5,7 +5,6 @@ use Rattle.std.specs.List.{AllByRecursion}
 use Rattle.std.specs.Map.{keys_of}
 use Rattle.std.proofs.lemmas.List.{map-append}
 use Rattle.wu_base.specs.declared.troubles.Trouble.{Trouble}
-use Rattle.wu_base.specs.declared.troubles.Trouble.TheVariants.{NoMemory}
 use Rattle.wu_base.proofs.EachLemmas.{each-append}
 use Rattle.wu_outside.specs.Content.{Content}
 use Rattle.wu_outside.specs.declared.ranges.ReadRange.{ReadRange}
@@ -118,18 +117,6 @@ module _ (holds : Option Content) (old new : Kept) where
         held = stays holds old old (λ blob bytes held. held);
       })
 
-  -- one was, which was kept
-  pub first-kept : (block : Block) → new.cap ≡ old.cap → keys_of new.entries ≡ asked old.cap (keys_of old.entries) block
-      → ((blob : ℕ) (bytes : List ℕ) → AreHeld blob bytes old → AreHeld blob bytes new) → AsksFirst (block ∷ []) holds old new
-  first-kept block capacity keys held = record {
-    capacity = capacity;
-    first = block ∷ [];
-    later = [];
-    parted = refl;
-    kept = keys;
-    held = stays holds old new held;
-  }
-
   -- all of them were
   pub first-all : (ranges ranges_now : Option (List ReadRange)) (blocks : List Block) → Asks blocks holds old new ranges ranges_now
       → AsksFirst blocks holds old new
@@ -160,19 +147,6 @@ first-join holds old mid new ranges between xs ys zs a f = record {
 }
 
 -- ---- causes
-
-pub cause-none : (missed : List Block) (blob : ℕ) (Broken : Type 0) (faults : ℕ) (ranges : Option (List ReadRange))
-    → IsCause missed blob Broken faults faults ranges ranges NoMemory
-cause-none missed blob Broken faults ranges = record {
-  counted = omega arith;
-  store_fault = λ e. absurd (cc);
-  calm = λ e. refl;
-  added = [];
-  unread = missed;
-  front = refl;
-  read = ranges-none ranges;
-  damaged = λ other e. absurd (cc);
-}
 
 -- of what is to be read, more may come
 pub cause-longer : (missed more : List Block) (blob : ℕ) (Broken Other : Type 0) (before now : ℕ)

@@ -11,10 +11,9 @@ use Rattle.std.proofs.lemmas.Map.Entries.{length-keys_of}
 use Rattle.lru.specs.LruCache.{LruCache, promoted, put_entries}
 use Rattle.lru.proofs.CallerLemmas.{Contains-lookup_entry}
 use Rattle.wu_base.proofs.Members.{Has-from_Contains, all_has}
-use Rattle.wu_base.proofs.MapEntries.{All-remove_entry, All-found}
+use Rattle.wu_base.proofs.MapEntries.{All-remove_entry}
 use Rattle.wu_lists.specs.declared.blocks.Block.{Block}
-use Rattle.wu_lists.specs.Blocks.{IsSpelling, bytes_of}
-use Rattle.wu_lists.specs.Keeping.{AreHeld, IsChecked, Kept, asked, is_same, missing}
+use Rattle.wu_lists.specs.Keeping.{IsChecked, asked, is_same, missing}
 
 -- ---- equal blocks
 
@@ -203,31 +202,6 @@ module _ {X : Type 0} (block : Block) where
   all-put P cache v none p a =
       let no : lookup_entry (is_same block) cache.entries ≡ None = no-entry-from_any cache.entries none in
       rw no (p, all-take (is_same block) P (cache.cap - 1) cache.entries a)
-
--- ---- what is kept of a blob
-
-pub held-found : (blob : ℕ) (bytes : List ℕ) (block : Block) (kept : Kept) (v : List ℕ) → AreHeld blob bytes kept → block.blob ≡ blob
-    → lookup (is_same block) kept.entries ≡ Some v → v ≡ bytes_of block bytes
-held-found blob bytes block kept v a e h =
-    let r = All-found (λ (x : Block × List ℕ). x.0.blob ≡ blob → x.1 ≡ bytes_of x.0 bytes) (is_same block) kept.entries v a h in
-    let same : block ≡ r.0 = same-blocks block r.0 r.1 in
-    subst (λ (b : Block). b.blob ≡ blob → v ≡ bytes_of b bytes) (sym same) r.2 e
-
--- what is kept of a block was checked
-pub checked-found : (block : Block) (entries : List (Block × List ℕ)) (v : List ℕ) → AllByRecursion IsChecked entries
-    → lookup (is_same block) entries ≡ Some v → (addresses : List ℕ) × IsSpelling block addresses v
-checked-found block entries v a h =
-    let r = All-found IsChecked (is_same block) entries v a h in
-    let same : block ≡ r.0 = same-blocks block r.0 r.1 in
-    subst (λ (b : Block). (addresses : List ℕ) × IsSpelling b addresses v) (sym same) r.2
-
-pub is_found : (block : Block) (entries : List (Block × List ℕ)) (bytes : List ℕ) → lookup (is_same block) entries ≡ Some bytes
-    → list_any (is_same block) (keys_of entries) ≡ true
-is_found block entries bytes found = any-key (is_same block) entries ∙ ap (λ (o : Option (List ℕ)). is_some o) found
-
-pub is_absent : (block : Block) (entries : List (Block × List ℕ)) → lookup (is_same block) entries ≡ None
-    → list_any (is_same block) (keys_of entries) ≡ false
-is_absent block entries none = any-key (is_same block) entries ∙ ap (λ (o : Option (List ℕ)). is_some o) none
 
 -- ---- which block is read
 

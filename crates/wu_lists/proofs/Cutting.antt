@@ -102,15 +102,6 @@ dead_in_ended [] left low address e l = refl
 dead_in_ended (f ∷ fs) left low address e l =
     dead_in_ended fs left low address e.1 l ∙ sym (after_first f (fs ++ left) address (omega (arith, e.0)))
 
--- frames that end before all of the addresses have none of them
-pub skip_frames : (high low : ℕ) (ended left : List Range) (addresses : List ℕ) → AllByRecursion (λ f. f.start + f.len ≤ low) ended
-    → AscendBetween low high addresses
-    → filter (is_live left) addresses ≡ filter (is_live (ended ++ left)) addresses
-skip_frames high low ended left addresses e a =
-    filter-same (is_live left) (is_live (ended ++ left)) addresses
-    (all_weaker (λ x. low ≤ x) (λ x. is_live left x ≡ is_live (ended ++ left) x) addresses
-    (λ x l. dead_in_ended ended left low x e l) (all_from low high addresses a))
-
 no_frames : (addresses : List ℕ) → filter (is_live []) addresses ≡ []
 no_frames [] = refl
 no_frames (x ∷ xs) = no_frames xs

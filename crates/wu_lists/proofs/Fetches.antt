@@ -1,8 +1,8 @@
 -- One block that is asked for: what is found, kept and read.
 use Rattle.std.proofs.Common.{◌≡◌, ℕ, ◌+◌, ◌≤◌, Bool, true, false, cond, List, [], ◌∷◌, ◌++◌, filter, refl, ap, sym, ◌∙◌, subst, arith}
-use Rattle.std.specs.Prelude.{Option, None, Some, IfSome, IfNone}
+use Rattle.std.specs.Prelude.{Option, None, Some, IfSome}
 use Rattle.std.specs.List.{AllByRecursion, list_any}
-use Rattle.std.specs.Map.{keys_of, lookup}
+use Rattle.std.specs.Map.{keys_of}
 use Rattle.std.proofs.lemmas.Option.{same_Some}
 use Rattle.wu_base.specs.declared.addresses.Range.{Range}
 use Rattle.wu_base.proofs.EachLemmas.{each-filter}
@@ -18,7 +18,7 @@ use Rattle.wu_lists.specs.Gaining.{Gains}
 use Rattle.wu_lists.specs.Keeping.{AreHeld, Asks, Kept, StaysHeld, all_missing, asked, is_same}
 use Rattle.wu_lists.proofs.Ascending.{ascend-filter}
 use Rattle.wu_lists.proofs.Asking.{ranges-none, stays, with_ranges}
-use Rattle.wu_lists.proofs.Caching.{held-found, missing-none, missing-one}
+use Rattle.wu_lists.proofs.Caching.{missing-none, missing-one}
 use Rattle.wu_lists.proofs.Spans.{none_live, spelled_ascend}
 
 -- ---- what is found
@@ -145,33 +145,6 @@ module _ (block : Block) (holds : Option Content) (old new : Kept) (ranges range
           before
 
 -- ---- of a result
-
-pub if_some : {T : Type 0} (P : Type 0) (o : Option T) → P → IfSome o (λ value. P)
-if_some P None p = tt
-if_some P (Some value) p = p
-
-pub never_none : {T : Type 0} (P Q : Type 0) (o : Option T) → (P → ⊥) → IfNone o P → IfNone o Q
-never_none P Q None not h = absurd (not h)
-never_none P Q (Some value) not h = h
-
--- what the addresses of a kept block are
-pub told-kept : (block : Block) (holds : Option Content) (kept : Kept) (bytes addresses : List ℕ)
-    → lookup (is_same block) kept.entries ≡ Some bytes → IsSpelling block addresses bytes
-    → IfSome holds (λ content. (blob : List ℕ) → content.blobs block.blob ≡ Some blob → AreHeld block.blob blob kept
-    → IsSpelling block addresses (bytes_of block blob))
-told-kept block None kept bytes addresses there spelled = tt
-told-kept block (Some content) kept bytes addresses there spelled = λ blob is held.
-    subst (IsSpelling block addresses) (held-found block.blob blob block kept bytes held refl there) spelled
-
--- and those of one that was read
-pub told-read : (block : Block) (holds : Option Content) (kept : Kept) (bytes addresses : List ℕ)
-    → IfSome holds (λ content. HasBytes content block bytes) → IsSpelling block addresses bytes
-    → IfSome holds (λ content. (blob : List ℕ) → content.blobs block.blob ≡ Some blob → AreHeld block.blob blob kept
-    → IsSpelling block addresses (bytes_of block blob))
-told-read block None kept bytes addresses has spelled = tt
-told-read block (Some content) kept bytes addresses has spelled = λ blob is held.
-    let same : has.blob ≡ blob = same_Some has.blob blob (sym has.there ∙ is) in
-    subst (IsSpelling block addresses) (has.same ∙ ap (λ (l : List ℕ). bytes_of block l) same) spelled
 
 -- and those of one that stands first among those that are kept
 pub told-first : (block : Block) (holds : Option Content) (old new : Kept) (bytes addresses : List ℕ) (later : List (Block × List ℕ))

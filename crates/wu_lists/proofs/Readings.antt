@@ -1,7 +1,6 @@
 -- What one read of a block tells.
 use Rattle.std.proofs.Common.{◌≡◌, ℕ, ◌+◌, ◌-◌, List, [], ◌∷◌, ◌++◌, length, take, drop, refl, ap, sym, ◌∙◌, subst, arith}
-use Rattle.std.specs.Prelude.{Option, None, Some, Result, Err}
-use Rattle.std.proofs.lemmas.List.{take_all}
+use Rattle.std.specs.Prelude.{Option, Some, Result, Err}
 use Rattle.std.proofs.lemmas.Option.{same_Some}
 use Rattle.wu_base.specs.declared.troubles.Trouble.TheVariants.{NoMemory as RanOutOfMemory, Damaged}
 use Rattle.wu_outside.specs.Content.{Content, ReadsFrom}
@@ -25,21 +24,6 @@ module _ (content : Content) (block : Block) (count : Option ℕ) (buffer : List
   same-given : (blob : List ℕ) → take (length buffer) (drop block.at blob) ≡ bytes_of block blob
   same-given blob = ap (λ (n : ℕ). take n (drop block.at blob)) long ∙ sym (slice-same block blob)
 
-  -- all of the block was there
-  pub has-bytes : (n : ℕ) → count ≡ Some n → n ≡ length buffer → ReadsFrom (content.blobs block.blob) block.at count buffer
-      → HasBytes content block buffer
-  has-bytes n some whole read =
-      elim (content.blobs block.blob) as
-      (λ o. content.blobs block.blob ≡ o → ReadsFrom o block.at count buffer → HasBytes content block buffer) [
-        | None ↦ λ e r. absurd (let f : Some n ≡ None = sym some ∙ r in cc)
-        | Some blob ↦ λ e r.
-            let taken : List ℕ = take (length buffer) (drop block.at blob) in
-            let all : n ≡ length taken = same_Some n (length taken) (sym some ∙ r.0) in
-            let same : buffer ≡ taken =
-            sym (take_all (length taken) buffer (omega (arith, all, whole))) ∙ r.1 in
-            record { blob = blob; there = e; whole = long; same = same ∙ same-given blob }
-      ] refl read
-
   -- not all of it was there
   pub not-whole : ((n : ℕ) → count ≡ Some n → n ≡ length buffer → ⊥) → ReadsFrom (content.blobs block.blob) block.at count buffer
       → IsSpelledIn content block → ⊥
@@ -57,11 +41,6 @@ unspelled content block bytes h none s =
     let blob : s.has.blob ≡ h.blob = same_Some s.has.blob h.blob (sym s.has.there ∙ h.there) in
     let same : s.bytes ≡ bytes = s.has.same ∙ ap (λ (l : List ℕ). bytes_of block l) blob ∙ sym h.same in
     none s.addresses (subst (IsSpelling block s.addresses) same s.spelled)
-
--- they are one
-pub spelled-in : (content : Content) (block : Block) (bytes addresses : List ℕ) → HasBytes content block bytes
-    → IsSpelling block addresses bytes → IsSpelledIn content block
-spelled-in content block bytes addresses h s = record { bytes = bytes; has = h; addresses = addresses; spelled = s }
 
 -- ---- causes
 

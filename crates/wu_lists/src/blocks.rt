@@ -48,9 +48,7 @@ impl Block {
         requires { (addresses : List ℕ) × IsSpelling self.now addresses bytes.now }
         ensures { IfOk result (λ found. IsSpelling self.now found.items bytes.now) }
     {
-        decode_block(
-            alloc, bytes, self.low, self.count, self.first, self.last,
-        )
+        decode_block(alloc, bytes, self.low, self.count, self.first, self.last)
     }
 }
 

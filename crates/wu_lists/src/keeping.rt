@@ -38,7 +38,8 @@ impl Lists {
             (D.faults store.old) (D.faults store.new) (D.reads store.old) (D.reads store.new)) }
     {
         self.ask(store, block)?;
-        Ok(block.addresses(self.alloc, self.first_kept(block))?)
+        let addresses = block.addresses(self.alloc, self.first_kept(block))?;
+        Ok(addresses)
     }
 
     /// Asks for the block, which is read where it isn't kept. It is then the one that was asked for last.

@@ -1,9 +1,6 @@
-use Rattle.std.proofs.Common.{[], ◌∷◌, sym, ◌∙◌, ap, rules}
+use Rattle.std.proofs.Common.{ℕ, sym, ◌∙◌, ap}
 use Rattle.std.specs.Map.{keys_of}
-use Rattle.std.proofs.lemmas.Result.{IfOk-weaker}
-use Rattle.wu_base.proofs.Results.{on_err}
 use Rattle.wu_lists.specs.Keeping.{asked}
-use Rattle.wu_lists.proofs.Asking.{first-all}
 use Rattle.wu_lists.proofs.Fetches.{told-first}
 use Rattle.wu_lists.proofs.Spans.{spelled_ascend}
 use Rattle.wu_lists.proofs.lists.Lists.addresses.Goals as goal
@@ -14,3 +11,13 @@ first_kept-requires g c = (
   c.in_ok-ask.ensures.blocks.kept
       ∙ ap (λ (cap : ℕ). asked cap (keys_of c.args.self.now.entries) c.args.block.now) (sym c.in_ok-ask.ensures.blocks.capacity),
 )
+
+pub returns-clause-ascend : goal.returns-clause-ascend
+returns-clause-ascend g c =
+    spelled_ascend c.args.block.now c.in_ok-addresses.addresses.items c.first_kept.result.now c.in_ok-addresses.ensures
+
+pub returns-clause-told : goal.returns-clause-told
+returns-clause-told g c =
+    told-first c.args.block.now (g.D.Store.holds c.args.store.now) c.args.self.now c.ask.new.self c.first_kept.result.now
+    c.in_ok-addresses.addresses.items c.first_kept.ensures.first.0 c.in_ok-ask.ensures.blocks.held c.first_kept.ensures.first.1
+    c.in_ok-addresses.ensures

@@ -1,4 +1,4 @@
-use Rattle.std.proofs.Common.{◌-◌, ◌^◌, ◌≡◌, ◌+◌, [], ◌∷◌, arith}
+use Rattle.std.proofs.Common.{◌-◌, ◌^◌, ◌+◌, [], ◌∷◌, arith}
 use Rattle.wu_base.proofs.Results.{on_err}
 use Rattle.wu_lists.proofs.Ascending.{ascend-higher, ascend-lower}
 use Rattle.wu_lists.proofs.Asking.{first-all}
