@@ -1,6 +1,6 @@
 -- An engine that indexed the texts of an image anew stands for its state.
-use Rattle.std.proofs.Common.{◌≡◌, ℕ, zero, suc, ◌<◌, ◌==◌, Bool, true, false, cond, List, [], ◌∷◌, ◌++◌, length, map, refl, ap, sym, ◌∙◌}
-use Rattle.std.proofs.Common.{subst, inl, inr, ⊎_elim, arith}
+use Rattle.std.proofs.Common.{◌≡◌, ℕ, zero, suc, ◌<◌, ◌==◌, true, false, cond, List, [], ◌∷◌, ◌++◌, length, map, refl, ap, sym, ◌∙◌}
+use Rattle.std.proofs.Common.{inl, inr, arith}
 use Rattle.std.specs.Prelude.{Option, Some, None, IfSome, unwrap_or}
 use Rattle.std.specs.List.{AllByRecursion, AllZip}
 use Rattle.std.proofs.lemmas.Bool.{eqb-true}
@@ -9,12 +9,11 @@ use Rattle.wu_base.specs.declared.addresses.PartRec.{PartRec}
 use Rattle.wu_base.proofs.Members.{Has, all_has}
 use Rattle.wu_outside.specs.Content.{Content}
 use Rattle.wu_outside.specs.declared.ranges.ReadRange.{ReadRange}
-use Rattle.wu_layout.specs.Layouts.{FileEntry, Layout}
+use Rattle.wu_layout.specs.Layouts.{FileEntry}
 use Rattle.wu_layout.specs.Postings.{Posting, addresses_of, placed_from}
 use Rattle.wu_token.specs.Tokens.{tokens_of}
 use Rattle.wu_space.specs.Addresses.{Addresses}
 use Rattle.wu_parts.specs.Contents.{Contents, no_contents}
-use Rattle.wu_parts.specs.Memory.{HasPostings}
 use Rattle.wu_image.specs.declared.checkpoints.Checkpoint.{Checkpoint}
 use Rattle.wu_image.specs.declared.records.FileRec.{FileRec}
 use Rattle.wu_image.specs.declared.roots.Root.{Root}
@@ -23,7 +22,7 @@ use Rattle.wu_image.specs.LayoutRules.{AreLayoutRules, IsText}
 use Rattle.wu_image.proofs.FileOrder.{AreFilled, moved_has, same_order}
 use Rattle.wu_query.specs.States.{State, Texts}
 use Rattle.wu_engine.specs.declared.engines.Engine.{Engine}
-use Rattle.wu_engine.specs.Opened.{IsEngineFor, numbered, ranges_recorded}
+use Rattle.wu_engine.specs.Opened.{IsEngineFor}
 use Rattle.wu_engine.specs.Opening.{HasCheckpoint, HasOpenRoot, HoldsImage}
 use Rattle.wu_engine.specs.Reindexed.{IsReindexed}
 use Rattle.wu_engine.specs.Stands.{Stands}

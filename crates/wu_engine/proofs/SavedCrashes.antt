@@ -1,6 +1,6 @@
 -- What a crash in a save leaves, and what one after it: an image of the state that was saved before, or of the one that is saved.
 use Rattle.std.proofs.Common.{◌≡◌, ◌⊎◌, inl, inr, ℕ, ◌≤◌, ◌==◌, List, [], ◌∷◌, ◌++◌, map, refl, ap, sym, ◌∙◌, subst, arith, ⊎_elim}
-use Rattle.std.specs.Prelude.{Option, Some, None, Result, Ok, Err, count_by, option_map}
+use Rattle.std.specs.Prelude.{Option, Some, None, Result, Ok, count_by, option_map}
 use Rattle.std.proofs.lemmas.Bool.{cases_eq}
 use Rattle.wu_base.proofs.Members.{Has}
 use Rattle.wu_base.specs.declared.limits.TheConstants.{ADDRESSES_MAX}

@@ -1,5 +1,5 @@
 -- What a save does besides what all calls have in common.
-use Rattle.std.specs.Prelude.{ℕ, ◌+◌, OnOk, Result}
+use Rattle.std.specs.Prelude.{◌+◌, OnOk, Result}
 use Rattle.wu_base.specs.declared.troubles.Trouble.{Trouble}
 use Rattle.wu_outside.specs.Content.{Content}
 use Rattle.wu_outside.specs.Surviving.{Leaves, LeavesNow}

@@ -1,10 +1,9 @@
 use Rattle.std.proofs.Common.{◌∙◌, ap, arith}
-use Rattle.wu_image.specs.declared.checkpoints.Checkpoint.{Checkpoint}
 use Rattle.wu_space.specs.Addresses.{Addresses}
 use Rattle.wu_parts.specs.Contents.{Contents}
 use Rattle.wu_query.proofs.PassedCauses.{err_from}
 use Rattle.wu_engine.specs.Opening.{ReadsAtOpening}
-use Rattle.wu_engine.proofs.OpenedIndexes.{IndexNumbers, index_cause, index_goes, index_numbers, index_open, index_reads, index_stands}
+use Rattle.wu_engine.proofs.OpenedIndexes.{index_cause, index_goes, index_numbers, index_open, index_reads, index_stands}
 use Rattle.wu_engine.proofs.OpenedRoots.{room_left}
 use Rattle.wu_engine.proofs.OpenedStates.{reads_checkpoint}
 use Rattle.wu_engine.proofs.opening.open_saved.Given as given

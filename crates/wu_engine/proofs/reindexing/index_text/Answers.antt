@@ -1,5 +1,5 @@
 use Rattle.std.proofs.Common.{arith}
-use Rattle.wu_engine.proofs.ReindexedTexts.{end_gained, first_only, memory_cause, text_gained, whole_only}
+use Rattle.wu_engine.proofs.ReindexedTexts.{end_gained, first_only, text_gained}
 use Rattle.wu_engine.proofs.reindexing.index_text.Goals as goal
 
 pub add_text-requires-clause-bounded : goal.add_text-requires-clause-bounded

@@ -1,8 +1,7 @@
-use Rattle.std.proofs.Common.{◌≡◌, ◌+◌, ◌<◌, ◌≤◌, ◌∙◌, length, arith}
+use Rattle.std.proofs.Common.{◌+◌, ◌<◌, ◌≤◌, ◌∙◌, length, arith}
 use Rattle.wu_image.proofs.RuleLemmas.{all_has_at}
 use Rattle.wu_image.specs.declared.records.FileRec.{FileRec}
 use Rattle.wu_query.proofs.PassedCauses.{err_from}
-use Rattle.wu_engine.specs.Reindexed.{IsReindexable}
 use Rattle.wu_engine.proofs.ReindexedTexts.{no_file, turn-cause, turn-memory, turn-only, turn-order, turn-reads, turn-whole}
 use Rattle.wu_engine.proofs.reindexing.index_texts.Goals as goal
 

@@ -1,9 +1,8 @@
-use Rattle.std.proofs.Common.{◌≡◌, ℕ, inl, inr, subst, ⊎_elim, arith}
+use Rattle.std.proofs.Common.{◌≡◌, inl, inr, ⊎_elim, arith}
 use Rattle.std.proofs.lemmas.Result.{IfOk-weaker}
 use Rattle.wu_query.proofs.ReadCauses.{if_err}
 use Rattle.wu_engine.proofs.OpenedIndexes.{fronts_read, load_cause, load_opened, reindex_cause, texts_read}
 use Rattle.wu_engine.proofs.OpenedParts.{loadable}
-use Rattle.wu_engine.proofs.reindexing.open_index.Given as given
 use Rattle.wu_engine.proofs.reindexing.open_index.Goals as goal
 
 pub load-requires : goal.load-requires

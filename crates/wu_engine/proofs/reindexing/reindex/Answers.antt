@@ -1,4 +1,4 @@
-use Rattle.std.proofs.Common.{◌≡◌, ◌∙◌, ap, refl, sym}
+use Rattle.std.proofs.Common.{ap}
 use Rattle.wu_parts.specs.Contents.{Contents}
 use Rattle.wu_query.proofs.PassedCauses.{err_from}
 use Rattle.wu_engine.proofs.ReindexedTexts.{order_cause, order_follows, order_reads, order_reindexable, order_within}
