@@ -22,6 +22,7 @@ pub mod WorkReads
 pub mod Sizes
 pub mod LeftStores
 pub mod QueryStands
+pub mod ListedPaths
 pub mod SavedTexts
 pub mod SavedBlobs
 pub mod SavedSpans

@@ -16,6 +16,7 @@ pub mod Puts
 pub mod Calls
 pub mod Changing
 pub mod Answering
+pub mod Listing
 pub mod Renewing
 pub mod Earlier
 pub mod Saved

@@ -6,6 +6,7 @@ mod changing;
 mod engines;
 mod faults;
 mod laws;
+mod listing;
 mod opening;
 mod reindexing;
 mod renewing;

@@ -59,8 +59,8 @@ IsCounted-written faults.NoMemory before between now same counted =
     record { rose = λ e. (cc); calm = λ other. counted.out_of_memory refl ∙ same }
 
 -- where an item wasn't answered
-pub IsCounted-answered : (trouble : Trouble) (ended : Option Trouble) (before between now : ℕ) → ended ≡ None → between ≡ before
-    → HasTroubleCause {T = Unit {0}} ended between now (Err trouble) → IsCounted StoreFault (status_of_trouble trouble) before now
+pub IsCounted-answered : {T : Type 0} (trouble : Trouble) (ended : Option Trouble) (before between now : ℕ) → ended ≡ None → between ≡ before
+    → HasTroubleCause {T = T} ended between now (Err trouble) → IsCounted StoreFault (status_of_trouble trouble) before now
 IsCounted-answered troubles.NoMemory ended before between now goes_on same counted =
     record { rose = λ e. (cc); calm = λ other. counted.calm (λ e. (cc)) ∙ same }
 IsCounted-answered troubles.StoreFault ended before between now goes_on same counted = record {

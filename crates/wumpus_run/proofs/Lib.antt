@@ -2,6 +2,9 @@ pub mod ReplyLemmas
 pub mod AloneStores
 pub mod SettingLimits
 pub mod SessionLemmas
+pub mod UnaskedItems
+pub mod SentLines
+pub mod ListedLines
 pub mod SoundBlobs
 pub mod AddressRoom
 pub mod PartialItems

@@ -288,10 +288,10 @@ module _ (told : Settings) (before : Moment) where
         }
 
     -- an item wasn't answered
-    pub IsSession-unanswered : (trouble : Trouble) (new : Held) (item : Item) (left : Option (List ℕ)) (last_read faults : ℕ)
-        (holds : Option Content) (store_faults : ℕ) → IsBeforeEnd item → TakesItem between.left left last_read old new item
+    pub IsSession-unanswered : {T : Type 0} (trouble : Trouble) (new : Held) (item : Item) (left : Option (List ℕ))
+        (last_read faults : ℕ) (holds : Option Content) (store_faults : ℕ) → IsBeforeEnd item → TakesItem between.left left last_read old new item
         → GivesAtMost (asked_at_once old.spare) between.left left between.last_read last_read
-        → faults ≡ between.read_faults → HasTroubleCause {T = Unit {0}} engine.ended between.store_faults store_faults (Err trouble)
+        → faults ≡ between.read_faults → HasTroubleCause {T = T} engine.ended between.store_faults store_faults (Err trouble)
         → ((s : State) → Stands engine between.holds s → (blob : ℕ) → trouble ≡ troubles.Damaged blob → ⊥)
         → IsSession (status_of_trouble trouble) (Some told) before
         (record between { left = left; last_read = last_read; read_faults = faults; holds = holds; store_faults = store_faults })

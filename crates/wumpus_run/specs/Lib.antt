@@ -19,5 +19,6 @@ pub mod Rebuilt
 
 pub mod Started
 pub mod Kept
+pub mod Rests
 pub mod Raised
 pub mod Strays

@@ -1,6 +1,6 @@
 //! An item of the script is answered by the engine.
 ghost use Rattle.std.specs.Prelude.{◌≡◌, ◌⊎◌, ℕ, ◌+◌, ◌<◌, ◌≤◌, ◌^◌, ◌++◌, true, None, Option, Some};
-ghost use Rattle.std.specs.Prelude.{Err, length, IfErr, IfOk, OnOk};
+ghost use Rattle.std.specs.Prelude.{Err, length, IfErr, IfOk, IfSome, OnOk};
 ghost use Rattle.wu_base.specs.declared.limits.TheConstants.{ADDRESSES_MAX, TEXT_MAX, WORK_MAX};
 ghost use Rattle.wu_base.specs.declared.troubles.Trouble.TheVariants.{Damaged};
 ghost use Rattle.wu_outside.specs.Content.{Content};
@@ -21,29 +21,32 @@ ghost use Rattle.wumpus_run.specs.Kept.{KeepsRootsCheckpoint, KeepsSaves, NamesA
 ghost use Rattle.wumpus_run.specs.Kept.{SavesFor, StaysDrawn, TouchesNoStray};
 ghost use Rattle.wumpus_run.specs.Raised.{IsRaised, PutsAtMost, SavesOnce, is_unasked, leaves_alone};
 ghost use Rattle.wumpus_run.specs.Replies.{after, reply_to, said_bytes, verdict_reply};
+ghost use Rattle.wumpus_run.specs.Rests.{rest_bytes};
 
-use wu_ask::Query;
-use wu_base::{NoMemory, Trouble};
+use crate::sending::{Rest, begin_paths};
+use wu_ask::{Ask, Query};
+use wu_base::{NoMemory, Trouble, Uid};
 use wu_engine::{Engine, Verdict};
 use wu_outside::Store;
 use wu_script::{Command, Item, Reply, Why, move_reply};
 use wu_tree::Event;
 
 /// Appends the bytes of the item's reply, if it has one: what [`reply_to`] answers, and under the
-/// same conditions.
+/// same conditions. Of the reply to `paths` that is the first line alone, and it says what is to
+/// come.
 pub fn answer<D: Store>(
     engine: &mut Engine,
     store: &mut D,
     item: Item,
     out: &mut Vec<u8>,
-) -> Result<(), Trouble>
+) -> Result<Rest, Trouble>
     requires sound { IsSoundItem item }
     requires goes_on { engine.old.ended ≡ None }
     requires room { engine.old.space.next + tokens_given (said_by item) ≤ ADDRESSES_MAX }
     requires blobs { engine.old.parts.next_blob + WORK_MAX < 2 ^ 63 }
     requires flushes { engine.old.parts.flushes + 1 < 2 ^ 63 }
-    ensures answer { (s : State) → Stands engine.old (D.holds store.old) s → OnOk result
-        ((out.new.items ≡ out.old.items ++ said_bytes s (said_by item))
+    ensures answer { (s : State) → Stands engine.old (D.holds store.old) s → IfOk result (λ rest.
+        (out.new.items ++ rest_bytes engine.new rest ≡ out.old.items ++ said_bytes s (said_by item))
         × Stands engine.new (D.holds store.new) (after engine.old.parts.flush_at s (said_by item))) }
     ensures named { NamesAll (said_by item) engine.old (D.holds store.old) (D.holds store.new) result }
     ensures strays { TouchesNoStray engine.old (D.holds store.old) (D.holds store.new) }
@@ -63,9 +66,33 @@ pub fn answer<D: Store>(
     ensures cause { HasTroubleCause engine.old.ended (D.faults store.old) (D.faults store.new) result }
     ensures damaged { BlamesNone engine.old (D.holds store.old) result }
 {
-    match reply_to(engine, store, item)? {
-        Some(reply) => Ok(move_reply(out, reply)?),
-        None => Ok(()),
+    match lister_of(&item) {
+        Some(uid) => begin_paths(engine, uid, out),
+        None => match reply_to(engine, store, item)? {
+            Some(reply) => {
+                move_reply(out, reply)?;
+                Ok(Rest::Nothing)
+            }
+            None => Ok(Rest::Nothing),
+        },
+    }
+}
+
+/// The user who asks for her paths, where the item is that.
+fn lister_of(item: &Item) -> Option<Uid>
+    ensures { IfSome result (λ uid.
+        item.now ≡ Item.Command (Command.Ask (record { uid = uid; ask = Ask.Paths }))) }
+{
+    match item {
+        Item::Command(
+            Command::Ask(
+                Query {
+                    uid,
+                    ask: Ask::Paths,
+                },
+            ),
+        ) => Some(*uid),
+        _ => None,
     }
 }
 

@@ -5,6 +5,7 @@ mod answering;
 mod checking;
 mod demo;
 mod laws;
+mod sending;
 mod session;
 mod statuses;
 mod tallies;

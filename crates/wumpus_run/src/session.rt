@@ -45,6 +45,7 @@ ghost use Rattle.wumpus_run.specs.Crashes.{left_to_next, Survives};
 use crate::answering::answer;
 use crate::checking::check_store;
 use crate::demo::demo;
+use crate::sending::send;
 use crate::statuses::Status;
 use std::alloc::Global;
 use wu_base::{NoMemory, Trouble};
@@ -226,11 +227,11 @@ fn answer_items<I: Source, O: Sink, D: Store>(
             return save(engine, store);
         }
         reply.clear();
-        match answer(engine, store, item, &mut reply) {
-            Ok(()) => {}
+        let rest = match answer(engine, store, item, &mut reply) {
+            Ok(rest) => rest,
             Err(trouble) => return status_of_trouble(trouble),
-        }
-        match write_reply(sink, reply.as_slice()) {
+        };
+        match send(sink, engine, &mut reply, rest) {
             Ok(()) => {}
             Err(fault) => return status_of_fault(fault),
         }

@@ -1,10 +1,11 @@
-use Rattle.std.proofs.Common.{◌+◌, Err, ap, refl, subst, arith}
+use Rattle.std.proofs.Common.{◌+◌, ◌++◌, Err, ap, refl, subst, arith}
 use Rattle.std.specs.Io.KnownBytes.{prepend_known}
 use Rattle.wu_script.specs.Holding.{Held}
 use Rattle.wu_script.specs.Items.{IsNext, TakesItem}
 use Rattle.wu_script.specs.Said.{said_by, tokens_given}
 use Rattle.wu_script.proofs.ReadLemmas.{asked_within}
 use Rattle.wumpus_run.specs.Replies.{said_bytes}
+use Rattle.wumpus_run.specs.Rests.{rest_bytes}
 use Rattle.wumpus_run.specs.Session.{moment}
 use Rattle.wumpus_run.specs.Started.{settings_by}
 use Rattle.wumpus_run.proofs.SessionLemmas.{appended, takes_one}
@@ -110,30 +111,31 @@ items-smaller g c =
 
 pub items-preserved : goal.items-preserved
 items-preserved g c =
+    let reply = c.answer.new.out.items ++ rest_bytes c.answer.new.engine c.in-Ok-answer.rest in
     let i = c.items.invariant.under_way in
-    let now = moment g.I.Source g.O.Sink g.D.Store c.next.new.source c.write_reply.new.sink c.answer.new.store in
+    let now = moment g.I.Source g.O.Sink g.D.Store c.next.new.source c.send.new.sink c.answer.new.store in
     let item = c.in-Ok.item in
     let done = c.in-Ok-answer.ensures in
     record {
       under_way = IsUnderWay-turn _ _ _ now _ c.answer.new.engine _ c.next.new.self item
-          c.answer.new.out.items c.as_slice.result.now i c.if-is_end.ensures c.in-Ok.ensures.taken
+          reply reply i c.if-is_end.ensures c.in-Ok.ensures.taken
           (c.in-Ok.ensures.first i.at_end) (c.in-Ok.ensures.at_end i.at_end) c.in-Ok.ensures.brief c.in-Ok.ensures.cause
-          c.in-Ok-write_reply.ensures.cause.calm (done.cause.calm (λ e. (cc)))
+          c.in-Ok-send.ensures.cause.calm (done.cause.calm (λ e. (cc)))
           c.in-Ok.ensures.sound done.leaves (λ s stands.
           let answers = c.in-Ok-answer.ensures.answer s stands in (
-            appended c.answer.new.out.items c.clear.new.self.items (said_bytes s (said_by item)) answers.0 c.clear.ensures.items,
+            appended reply c.clear.new.self.items (said_bytes s (said_by item)) answers.0 c.clear.ensures.items,
             answers.1,
             done.named s stands,
             done.strays s stands,
-          )) c.as_slice.ensures.value c.in-Ok-write_reply.ensures.ok;
+          )) refl c.in-Ok-send.ensures.ok;
       permitted = λ reads opening s image. HasRead-turn _ s (c.items.invariant.permitted reads opening s image) item
-          c.answer.new.out.items c.clear.new.self.items c.as_slice.result.now c.if-is_end.ensures (c.in-Ok.ensures.first i.at_end)
-          i.flush_at c.clear.ensures.items done.answer done.permitted c.as_slice.ensures.value c.in-Ok-write_reply.ensures.ok;
+          reply c.clear.new.self.items reply c.if-is_end.ensures (c.in-Ok.ensures.first i.at_end)
+          i.flush_at c.clear.ensures.items done.answer done.permitted refl c.in-Ok-send.ensures.ok;
       crash = λ moments left s image. HasKept-turn _ s _ _ now _ _ _ _ _ _ _ (c.items.invariant.crash moments left s image) item
-          c.answer.new.out.items c.as_slice.result.now c.if-is_end.ensures (c.in-Ok.ensures.first i.at_end) i.flush_at
-          (IsAnswered-appended c.items.engine c.answer.new.engine (g.D.Store.holds c.items.store) now.holds item c.answer.new.out.items
+          reply reply c.if-is_end.ensures (c.in-Ok.ensures.first i.at_end) i.flush_at
+          (IsAnswered-appended c.items.engine c.answer.new.engine (g.D.Store.holds c.items.store) now.holds item reply
           c.clear.new.self.items (g.D.Store.moments c.items.store) (g.D.Store.moments c.answer.new.store) c.clear.ensures.items
-          done.answer done.leaves.onward done.survives done.durable) c.as_slice.ensures.value c.in-Ok-write_reply.ensures.ok;
+          done.answer done.leaves.onward done.survives done.durable) refl c.in-Ok-send.ensures.ok;
       goes = λ content e. done.goes content (c.items.invariant.goes content e);
       earlier = HasLeft-turn (g.D.Store.holds c.args.store.now) (g.D.Store.holds c.items.store) now.holds
           c.items.engine.parts.next_blob c.answer.new.engine.parts.next_blob
@@ -151,24 +153,25 @@ items-preserved g c =
       follows = c.in-Ok.ensures.follows;
     }
 
-pub returns-in-Err-write_reply-clause-session : goal.returns-in-Err-write_reply-clause-session
-returns-in-Err-write_reply-clause-session g c =
+pub returns-in-Err-send-clause-session : goal.returns-in-Err-send-clause-session
+returns-in-Err-send-clause-session g c =
+    let reply = c.answer.new.out.items ++ rest_bytes c.answer.new.engine c.in-Ok-answer.rest in
     let i = c.items.invariant.under_way in
-    let now = moment g.I.Source g.O.Sink g.D.Store c.next.new.source c.write_reply.new.sink c.answer.new.store in
+    let now = moment g.I.Source g.O.Sink g.D.Store c.next.new.source c.send.new.sink c.answer.new.store in
     let item = c.in-Ok.item in
     rw c.status_of_fault.ensures
-    (IsSession-unwritten _ _ _ _ _ i c.in-Err-write_reply.fault now c.answer.new.engine
-    c.next.new.self item c.answer.new.out.items c.as_slice.result.now c.if-is_end.ensures c.in-Ok.ensures.taken
-    (c.in-Ok.ensures.first i.at_end) c.in-Ok.ensures.brief c.in-Ok.ensures.cause c.in-Err-write_reply.ensures.cause
+    (IsSession-unwritten _ _ _ _ _ i c.in-Err-send.fault now c.answer.new.engine
+    c.next.new.self item reply reply c.if-is_end.ensures c.in-Ok.ensures.taken
+    (c.in-Ok.ensures.first i.at_end) c.in-Ok.ensures.brief c.in-Ok.ensures.cause c.in-Err-send.ensures.cause
     (c.in-Ok-answer.ensures.cause.calm (λ e. (cc)))
     (λ s stands.
     let answers = c.in-Ok-answer.ensures.answer s stands in (
-      appended c.answer.new.out.items c.clear.new.self.items (said_bytes s (said_by item)) answers.0 c.clear.ensures.items,
+      appended reply c.clear.new.self.items (said_bytes s (said_by item)) answers.0 c.clear.ensures.items,
       answers.1,
       c.in-Ok-answer.ensures.named s stands,
       c.in-Ok-answer.ensures.strays s stands,
     ))
-    c.as_slice.ensures.value c.in-Err-write_reply.ensures.err)
+    refl c.in-Err-send.ensures.err)
 
 pub items-init : goal.items-init
 items-init g c =
@@ -218,16 +221,17 @@ returns-in-Err-answer-clause-permitted g c =
     (prepend_known c.next.new.self.bytes (g.I.Source.left c.next.new.source)) c.if-is_end.ensures
     (c.in-Ok.ensures.first c.items.invariant.under_way.at_end) now _ c.in-Err-answer.ensures.permitted c.in-Err-answer.trouble refl)
 
-pub returns-in-Err-write_reply-clause-permitted : goal.returns-in-Err-write_reply-clause-permitted
-returns-in-Err-write_reply-clause-permitted g c =
-    let now = moment g.I.Source g.O.Sink g.D.Store c.next.new.source c.write_reply.new.sink c.answer.new.store in
+pub returns-in-Err-send-clause-permitted : goal.returns-in-Err-send-clause-permitted
+returns-in-Err-send-clause-permitted g c =
+    let reply = c.answer.new.out.items ++ rest_bytes c.answer.new.engine c.in-Ok-answer.rest in
+    let now = moment g.I.Source g.O.Sink g.D.Store c.next.new.source c.send.new.sink c.answer.new.store in
     let done = c.in-Ok-answer.ensures in
     rw c.status_of_fault.ensures (λ reads opening s image.
     permitted_unwritten _ s _ _ _ _ _ _ (c.items.invariant.permitted reads opening s image) c.in-Ok.item
     (prepend_known c.next.new.self.bytes (g.I.Source.left c.next.new.source)) c.if-is_end.ensures
-    (c.in-Ok.ensures.first c.items.invariant.under_way.at_end) now _ done.permitted c.in-Err-write_reply.fault c.answer.new.engine
-    c.answer.new.out.items c.clear.new.self.items c.as_slice.result.now c.clear.ensures.items done.answer c.as_slice.ensures.value
-    c.in-Err-write_reply.ensures.err)
+    (c.in-Ok.ensures.first c.items.invariant.under_way.at_end) now _ done.permitted c.in-Err-send.fault c.answer.new.engine
+    reply c.clear.new.self.items reply c.clear.ensures.items done.answer refl
+    c.in-Err-send.ensures.err)
 
 pub returns-in-Err-clause-broken : goal.returns-in-Err-clause-broken
 returns-in-Err-clause-broken g c =
@@ -243,9 +247,9 @@ returns-in-Err-answer-clause-broken g c =
     c.in-Err-answer.ensures.broken content (c.items.invariant.goes content told) blob
     (ap Err (damaged_so c.in-Err-answer.trouble blob e)))
 
-pub returns-in-Err-write_reply-clause-broken : goal.returns-in-Err-write_reply-clause-broken
-returns-in-Err-write_reply-clause-broken g c =
-    rw c.status_of_fault.ensures (λ content told blob e. absurd (writing c.in-Err-write_reply.fault (Damaged blob) refl e))
+pub returns-in-Err-send-clause-broken : goal.returns-in-Err-send-clause-broken
+returns-in-Err-send-clause-broken g c =
+    rw c.status_of_fault.ensures (λ content told blob e. absurd (writing c.in-Err-send.fault (Damaged blob) refl e))
 
 pub returns-in-Err-clause-survives : goal.returns-in-Err-clause-survives
 returns-in-Err-clause-survives g c =
@@ -273,20 +277,21 @@ returns-in-Err-answer-clause-survives g c =
     (c.in-Ok.ensures.first c.items.invariant.under_way.at_end) now (g.D.Store.moments c.answer.new.store) c.in-Err-answer.trouble refl
     c.in-Err-answer.ensures.survives)
 
-pub returns-in-Err-write_reply-clause-survives : goal.returns-in-Err-write_reply-clause-survives
-returns-in-Err-write_reply-clause-survives g c =
+pub returns-in-Err-send-clause-survives : goal.returns-in-Err-send-clause-survives
+returns-in-Err-send-clause-survives g c =
+    let reply = c.answer.new.out.items ++ rest_bytes c.answer.new.engine c.in-Ok-answer.rest in
     let i = c.items.invariant.under_way in
-    let now = moment g.I.Source g.O.Sink g.D.Store c.next.new.source c.write_reply.new.sink c.answer.new.store in
+    let now = moment g.I.Source g.O.Sink g.D.Store c.next.new.source c.send.new.sink c.answer.new.store in
     let item = c.in-Ok.item in
     let done = c.in-Ok-answer.ensures in
     rw c.status_of_fault.ensures (λ moments left s image.
     Survives-unwritten _ s _ _ _ _ _ _ (c.items.invariant.crash moments left s image) item
     (prepend_known c.next.new.self.bytes (g.I.Source.left c.next.new.source)) c.if-is_end.ensures (c.in-Ok.ensures.first i.at_end) now
-    (g.D.Store.moments c.answer.new.store) c.in-Err-write_reply.fault c.answer.new.engine c.answer.new.out.items c.as_slice.result.now
+    (g.D.Store.moments c.answer.new.store) c.in-Err-send.fault c.answer.new.engine reply reply
     i.flush_at
-    (IsAnswered-appended c.items.engine c.answer.new.engine (g.D.Store.holds c.items.store) now.holds item c.answer.new.out.items
+    (IsAnswered-appended c.items.engine c.answer.new.engine (g.D.Store.holds c.items.store) now.holds item reply
     c.clear.new.self.items (g.D.Store.moments c.items.store) (g.D.Store.moments c.answer.new.store) c.clear.ensures.items
-    done.answer done.leaves.onward done.survives done.durable) c.as_slice.ensures.value c.in-Err-write_reply.ensures.err)
+    done.answer done.leaves.onward done.survives done.durable) refl c.in-Err-send.ensures.err)
 
 pub returns-in-Err-clause-opened : goal.returns-in-Err-clause-opened
 returns-in-Err-clause-opened g c = rw c.status_of.ensures (λ next. reading c.in-Err.end (Spent next) refl)
@@ -298,9 +303,9 @@ pub returns-in-Err-answer-clause-opened : goal.returns-in-Err-answer-clause-open
 returns-in-Err-answer-clause-opened g c =
     rw c.status_of_trouble.ensures (λ next. answering c.in-Err-answer.trouble (Spent next) refl)
 
-pub returns-in-Err-write_reply-clause-opened : goal.returns-in-Err-write_reply-clause-opened
-returns-in-Err-write_reply-clause-opened g c =
-    rw c.status_of_fault.ensures (λ next. writing c.in-Err-write_reply.fault (Spent next) refl)
+pub returns-in-Err-send-clause-opened : goal.returns-in-Err-send-clause-opened
+returns-in-Err-send-clause-opened g c =
+    rw c.status_of_fault.ensures (λ next. writing c.in-Err-send.fault (Spent next) refl)
 
 pub returns-in-Err-clause-earlier : goal.returns-in-Err-clause-earlier
 returns-in-Err-clause-earlier g c =
@@ -319,8 +324,8 @@ returns-in-Err-answer-clause-earlier g c =
     c.items.engine.parts.next_blob c.items.invariant.earlier
     (λ content told. c.answer.ensures.earlier content (c.items.invariant.goes content told))
 
-pub returns-in-Err-write_reply-clause-earlier : goal.returns-in-Err-write_reply-clause-earlier
-returns-in-Err-write_reply-clause-earlier g c =
+pub returns-in-Err-send-clause-earlier : goal.returns-in-Err-send-clause-earlier
+returns-in-Err-send-clause-earlier g c =
     left_then (g.D.Store.holds c.args.store.now) (g.D.Store.holds c.items.store) (g.D.Store.holds c.answer.new.store)
     c.items.engine.parts.next_blob c.items.invariant.earlier
     (λ content told. c.answer.ensures.earlier content (c.items.invariant.goes content told))
@@ -342,8 +347,8 @@ returns-in-Err-answer-clause-checkpoint g c =
     (λ content told. c.answer.ensures.earlier content (c.items.invariant.goes content told))
     (λ content told. c.answer.ensures.checkpoint content (c.items.invariant.goes content told))
 
-pub returns-in-Err-write_reply-clause-checkpoint : goal.returns-in-Err-write_reply-clause-checkpoint
-returns-in-Err-write_reply-clause-checkpoint g c =
+pub returns-in-Err-send-clause-checkpoint : goal.returns-in-Err-send-clause-checkpoint
+returns-in-Err-send-clause-checkpoint g c =
     checkpoint_then c.items.engine.parts.next_blob (g.D.Store.holds c.args.store.now) (g.D.Store.holds c.items.store)
     (g.D.Store.holds c.answer.new.store) c.items.invariant.checkpoint c.items.invariant.rooted
     (λ content told. c.answer.ensures.earlier content (c.items.invariant.goes content told))
@@ -358,8 +363,8 @@ returns-in-Err-answer-clause-told g c =
     rw c.status_of_trouble.ensures
     (told_answering c.in-Err-answer.trouble c.answer.new.engine.ended c.in-Err-answer.ensures.ends)
 
-pub returns-in-Err-write_reply-clause-told : goal.returns-in-Err-write_reply-clause-told
-returns-in-Err-write_reply-clause-told g c = λ trouble e.
+pub returns-in-Err-send-clause-told : goal.returns-in-Err-send-clause-told
+returns-in-Err-send-clause-told g c = λ trouble e.
     untold c.answer.new.engine.ended trouble c.in-Ok-answer.ensures.leaves.goes_on e
 
 pub returns-in-Err-clause-met : goal.returns-in-Err-clause-met
@@ -370,9 +375,9 @@ returns-in-Err-answer-clause-met g c =
     rw c.status_of_trouble.ensures
     (met_answering c.in-Err-answer.trouble c.answer.new.engine.ended c.in-Err-answer.ensures.ends)
 
-pub returns-in-Err-write_reply-clause-met : goal.returns-in-Err-write_reply-clause-met
-returns-in-Err-write_reply-clause-met g c =
-    rw c.status_of_fault.ensures (λ e. absurd (writing c.in-Err-write_reply.fault StoreFault refl e))
+pub returns-in-Err-send-clause-met : goal.returns-in-Err-send-clause-met
+returns-in-Err-send-clause-met g c =
+    rw c.status_of_fault.ensures (λ e. absurd (writing c.in-Err-send.fault StoreFault refl e))
 
 pub returns-in-Err-clause-strays : goal.returns-in-Err-clause-strays
 returns-in-Err-clause-strays g c = λ s image. (c.items.invariant.under_way.from s image).strays.same
@@ -387,8 +392,8 @@ returns-in-Err-answer-clause-strays g c = λ s image.
     let so_far = c.items.invariant.under_way.from s image in
     c.answer.ensures.strays so_far.state so_far.stands s.layout (g.D.Store.holds c.args.store.now) so_far.strays
 
-pub returns-in-Err-write_reply-clause-strays : goal.returns-in-Err-write_reply-clause-strays
-returns-in-Err-write_reply-clause-strays g c = λ s image.
+pub returns-in-Err-send-clause-strays : goal.returns-in-Err-send-clause-strays
+returns-in-Err-send-clause-strays g c = λ s image.
     let so_far = c.items.invariant.under_way.from s image in
     c.answer.ensures.strays so_far.state so_far.stands s.layout (g.D.Store.holds c.args.store.now) so_far.strays
 
@@ -413,8 +418,8 @@ returns-in-Err-answer-clause-untaken g c =
     taken.0 (g.I.Source.last_read c.next.new.source) c.items.reader c.next.new.self c.in-Ok.item taken.1 c.if-is_end.ensures
     c.in-Ok.ensures.taken (untaken_map _ _ _ _ (λ so. so.0) c.items.invariant.untaken)
 
-pub returns-in-Err-write_reply-clause-untaken : goal.returns-in-Err-write_reply-clause-untaken
-returns-in-Err-write_reply-clause-untaken g c =
+pub returns-in-Err-send-clause-untaken : goal.returns-in-Err-send-clause-untaken
+returns-in-Err-send-clause-untaken g c =
     let taken = c.items.invariant.under_way.taken in
     untaken_item _ (g.I.Source.left c.args.source.now) (g.I.Source.left c.items.source) (g.I.Source.left c.next.new.source)
     taken.0 (g.I.Source.last_read c.next.new.source) c.items.reader c.next.new.self c.in-Ok.item taken.1 c.if-is_end.ensures
@@ -440,17 +445,18 @@ returns-in-Err-answer-clause-puts g c = λ s image.
     (prepend_known c.next.new.self.bytes (g.I.Source.left c.next.new.source)) c.if-is_end.ensures
     (c.in-Ok.ensures.first c.items.invariant.under_way.at_end) c.answer.ensures.puts refl
 
-pub returns-in-Err-write_reply-clause-puts : goal.returns-in-Err-write_reply-clause-puts
-returns-in-Err-write_reply-clause-puts g c = λ s image.
+pub returns-in-Err-send-clause-puts : goal.returns-in-Err-send-clause-puts
+returns-in-Err-send-clause-puts g c = λ s image.
+    let reply = c.answer.new.out.items ++ rest_bytes c.answer.new.engine c.in-Ok-answer.rest in
     let so_far = c.items.invariant.under_way.from s image in
     let item = c.in-Ok.item in
     puts_unwritten _ s _ _ _ _ so_far
-    (moment g.I.Source g.O.Sink g.D.Store c.next.new.source c.write_reply.new.sink c.answer.new.store) item
+    (moment g.I.Source g.O.Sink g.D.Store c.next.new.source c.send.new.sink c.answer.new.store) item
     (prepend_known c.next.new.self.bytes (g.I.Source.left c.next.new.source)) c.if-is_end.ensures
-    (c.in-Ok.ensures.first c.items.invariant.under_way.at_end) c.answer.ensures.puts c.answer.new.out.items c.as_slice.result.now
-    (appended c.answer.new.out.items c.clear.new.self.items (said_bytes so_far.state (said_by item))
+    (c.in-Ok.ensures.first c.items.invariant.under_way.at_end) c.answer.ensures.puts reply reply
+    (appended reply c.clear.new.self.items (said_bytes so_far.state (said_by item))
     (c.in-Ok-answer.ensures.answer so_far.state so_far.stands).0 c.clear.ensures.items)
-    c.as_slice.ensures.value c.in-Err-write_reply.ensures.err
+    refl c.in-Err-send.ensures.err
 
 pub returns-in-Err-clause-asked : goal.returns-in-Err-clause-asked
 returns-in-Err-clause-asked g c =
@@ -470,8 +476,8 @@ returns-in-Err-answer-clause-asked g c =
     asked_within c.items.reader.spare (most_asked c.args.source.now) (most_asked c.items.source) (most_asked c.next.new.source)
     c.items.invariant.asked c.in-Ok.ensures.asked
 
-pub returns-in-Err-write_reply-clause-asked : goal.returns-in-Err-write_reply-clause-asked
-returns-in-Err-write_reply-clause-asked g c =
+pub returns-in-Err-send-clause-asked : goal.returns-in-Err-send-clause-asked
+returns-in-Err-send-clause-asked g c =
     let most_asked = g.I.Source.most_asked in
     asked_within c.items.reader.spare (most_asked c.args.source.now) (most_asked c.items.source) (most_asked c.next.new.source)
     c.items.invariant.asked c.in-Ok.ensures.asked
