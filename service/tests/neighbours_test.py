@@ -62,7 +62,8 @@ def of_mirror(place: Place, score: Score) -> None:
     with open(place.tree / "sparse", "wb") as out:
         out.write(b"apple " * 2000)
         out.truncate(16 << 20)
-    place.mirror()
+    _, _, told_of = place.mirror()
+    score.check("sparse: has holes" in told_of, f"a sparse file is told of: {told_of}")
     size = sum(one.stat().st_size for one in (place.store / "wumpus-store").iterdir())
     score.check(size < 1 << 20, f"the store of a sparse file has {size} bytes")
     (place.tree / "private").mkdir()

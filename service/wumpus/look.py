@@ -164,7 +164,9 @@ class Looker:
             self.warn(f"{os.fsdecode(name)}: over 16 MiB, its path is kept without its text")
             return b""
         if status.st_size and os.lseek(descriptor, 0, os.SEEK_HOLE) < status.st_size:
-            return b""  # its holes take no room of its owner's, and would take it of the store's
+            # Its holes take no room of its owner's, and would take it of the store's.
+            self.warn(f"{os.fsdecode(name)}: has holes, its path is kept without its text")
+            return b""
         os.lseek(descriptor, 0, os.SEEK_SET)
         pieces = [os.read(descriptor, min(status.st_size + 1, PIECE))]
         if b"\0" in pieces[0][:LOOKED_FOR_NUL]:
