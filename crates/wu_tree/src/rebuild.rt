@@ -60,6 +60,8 @@ impl Tree {
         if !are_linked(hung.as_slice()) {
             return Ok(None);
         }
+        // Nothing below needs it, and it is as large as the links.
+        drop(hung);
         let links = Links::from_sorted(alloc, links)?;
         // Each directory is as high as can be, until the walk comes to it.
         lower(&mut inodes, &links, ROOT, DEPTH_MAX);

@@ -1,5 +1,5 @@
 -- Lemmas on spelled blocks.
-use Rattle.std.proofs.Common.{◌≡◌, ℕ, suc, ◌+◌, ◌-◌, ◌<◌, ◌≤◌, List, [], ◌∷◌, ◌++◌, length, get_or, drop, Option, Some, None, IfNone, refl}
+use Rattle.std.proofs.Common.{◌≡◌, ℕ, suc, ◌+◌, ◌-◌, ◌<◌, ◌≤◌, List, [], ◌∷◌, ◌++◌, length, get_or, drop, Option, Some, None, refl}
 use Rattle.std.proofs.Common.{ap, sym, Bool, true, false, MatchBool}
 use Rattle.std.proofs.Common.{◌∙◌, append_assoc, append-nil, length-append, ◌⊎◌, ⊎_elim, arith}
 use Rattle.std.specs.Prelude.{slice_get}
@@ -9,10 +9,6 @@ use Rattle.std.proofs.lemmas.List.{drop_more, at_drop_all}
 use Rattle.wu_vbyte.specs.Numbers.{StartsWithNumber, AppendsNumber}
 use Rattle.wu_vbyte.specs.Blocks.{SpellsGaps, SpellsBlock, SpellsAfterFirst, AppendsBlock, AreFromTo}
 use Rattle.wu_vbyte.proofs.NumberLemmas.{one_number, has_spelling, starts_not_empty, code_longer, code_of_value}
-
-pub none_weaker : {X P Q : Type 0} → (block : Option X) → (P → Q) → IfNone block P → IfNone block Q
-none_weaker None weaker h = weaker h
-none_weaker (Some x) weaker h = tt
 
 pub match_weaker : {P Q R S : Type 0} → (b : Bool) → (P → R) → (Q → S) → MatchBool b P Q → MatchBool b R S
 match_weaker true one other h = one h

@@ -1,3 +1,4 @@
 pub mod BlockLemmas
+mod NearLemmas
 pub mod NumberLemmas
 mod ShortLemmas

@@ -1,10 +1,10 @@
 -- Lemmas on blocks of short numbers.
 use Rattle.std.proofs.Common.{◌≡◌, ℕ, nat_eq, Bool, true, false, MatchBool, ◌+◌, ◌-◌, ◌*◌, ◌%◌, ◌<◌, ◌≤◌, ◌⊎◌, ⊎_elim, inl, inr, List, [], ◌∷◌}
 use Rattle.std.proofs.Common.{◌++◌, length, set, take, drop}
-use Rattle.std.proofs.Common.{refl, ap, sym, ◌∙◌, arith, length-append}
+use Rattle.std.proofs.Common.{refl, ap, sym, ◌∙◌, ◌^◌, arith, append_assoc, length-append}
 use Rattle.std.proofs.lemmas.Bool.{cases_lt, eqb-false, eqb-true}
-use Rattle.std.proofs.lemmas.List.{at_drop_all, take-set, take_more_set}
-use Rattle.wu_vbyte.specs.Blocks.{SpellsGaps, SpellsAfterFirst, AreFromTo, AreShort, AreSingle}
+use Rattle.std.proofs.lemmas.List.{at_drop_all, take-append-drop, take-set, take_more_set}
+use Rattle.wu_vbyte.specs.Blocks.{SpellsGaps, SpellsAfterFirst, AreFromTo, AreShort, AreSingle, HasEnd, HasPart, HaveEach}
 use Rattle.wu_vbyte.proofs.NumberLemmas.{last_starts, more_starts, starts_not_empty, starts_with_last, starts_with_more}
 use Rattle.wu_vbyte.proofs.BlockLemmas.{Taken, taken_next, taken_all, taken_end, taken_other, starts_length, gaps_length}
 
@@ -174,3 +174,45 @@ single_next first last bytes left items place byte total more t some small e wit
     let gap : total + more - total ≡ byte = omega arith in
     rw (take_more_set items place (total + more) room)
     (taken_next _ _ _ _ left _ _ _ (total + more) t (omega arith) within (rw gap (last_starts byte left small)) refl)
+
+-- ---- what each byte adds, and how many numbers end there
+
+-- the items of the bytes before, with any items of those that are left, are items of all bytes
+abbrev pub BeginEach : (ℕ → ℕ → ℕ → Type 0) → List ℕ → List ℕ → ℕ → List ℕ → Type 0
+BeginEach Has bytes items before left = (more : List ℕ) → HaveEach Has before left more → HaveEach Has 0 bytes (items ++ more)
+
+pub begin_next : (Has : ℕ → ℕ → ℕ → Type 0) (bytes left items : List ℕ) (place before byte item : ℕ)
+    → BeginEach Has bytes (take place items) before (byte ∷ left) → Has before byte item → place < length items
+    → BeginEach Has bytes (take (place + 1) (set items place item)) byte left
+begin_next Has bytes left items place before byte item begin has room more have =
+    rw (take_more_set items place item room, append_assoc (take place items) (item ∷ []) more) (begin (item ∷ more) (has, have))
+
+pub begun_all : (Has : ℕ → ℕ → ℕ → Type 0) (bytes items : List ℕ) (place before : ℕ) → length bytes ≤ place
+    → BeginEach Has bytes (take place items) before (drop place bytes) → HaveEach Has 0 bytes items
+begun_all Has bytes items place before over begin =
+    let begin = rw (at_drop_all (λ left. left) bytes place over) at begin in
+    rw (take-append-drop place items) at (begin (drop place items) tt)
+
+-- what was taken after the first bytes, where `before` is the last of them
+pub record Adds (first : ℕ) (bytes left parts ends taken : List ℕ) (total : ℕ) : Type 0 where
+  pub before : ℕ
+  pub short : AreShort before left
+  pub have_parts : HaveEach HasPart before left parts
+  pub have_ends : HaveEach HasEnd before left ends
+  pub summed : Summed first (2 ^ 64) bytes left taken before total
+
+pub adds_next : (first : ℕ) (bytes left parts ends items : List ℕ) (taken byte part end total more ended : ℕ)
+    → Adds first bytes (byte ∷ left) (part ∷ parts) (end ∷ ends) (take taken items) total → more ≡ part → ended ≡ end % 2 → byte < 256
+    → total + more ≤ 2 ^ 64 → taken < length items
+    → Adds first bytes left parts ends (take (taken + ended) (set items taken (total + more))) (total + more)
+adds_next first bytes left parts ends items taken byte part end total more ended a same is top within room =
+    let part = a.have_parts.0 in
+    let ends = a.have_ends.0 in
+    record {
+      before = byte;
+      short = a.short.2;
+      have_parts = a.have_parts.1;
+      have_ends = a.have_ends.1;
+      summed = summed_next _ _ _ _ _ _ _ _ _ _ _ a.summed a.short top (λ h. same ∙ part.small h) (λ h. same ∙ part.large h) within
+          (λ h. omega (arith, ends.one h)) (λ h. omega (arith, ends.none h)) room;
+    }

@@ -3,10 +3,10 @@ ghost use Rattle.std.specs.Prelude.{◌≡◌, [], ◌++◌, ◌+◌, ◌-◌, �
 ghost use Rattle.std.specs.List.Sorted.{IsStrictlyIncreasing};
 ghost use Rattle.wu_vbyte.specs.declared.blocks.TheConstants.{BLOCK_LEN};
 ghost use Rattle.wu_vbyte.specs.Numbers.{StartsWithNumber};
-ghost use Rattle.wu_vbyte.specs.Blocks.{SpellsBlock, SpellsAfterFirst, AppendsBlock, AreFromTo};
+ghost use Rattle.wu_vbyte.specs.Blocks.{SpellsBlock, SpellsAfterFirst, IsSpelledFromTo, SpellsFromTo, AppendsBlock, AreFromTo};
 
 use crate::numbers::{next_number, put_number};
-use crate::short::{are_small, decode_short, is_short};
+use crate::short::{are_small, are_small_in_block, decode_short, is_short};
 use std::alloc::Global;
 use wu_base::NoMemory;
 
@@ -173,9 +173,8 @@ fn are_later(bytes: &[u8], count: usize, first: u64, last: u64) -> bool
     requires count { 0 < count }
     requires within { first ≤ last }
     ensures { MatchBool result
-        ((found : List ℕ) × SpellsAfterFirst first found bytes.now × AreFromTo count first last found)
-        ((addresses : List ℕ) → SpellsAfterFirst first addresses bytes.now
-        → AreFromTo count first last addresses → ⊥) }
+        (IsSpelledFromTo count first last bytes.now)
+        ((addresses : List ℕ) → SpellsAfterFirst first addresses bytes.now → AreFromTo count first last addresses → ⊥) }
 {
     if are_small(bytes, first) {
         is_short(bytes, count, first, last)
@@ -193,10 +192,10 @@ fn decode_later(
     first: u64,
     last: u64,
 ) -> Result<Vec<u64>, NoMemory>
-    requires { (addresses : List ℕ) × SpellsAfterFirst first addresses bytes.now × AreFromTo count first last addresses }
-    ensures { IfOk result (λ found. SpellsAfterFirst first found.items bytes.now × AreFromTo count first last found.items) }
+    requires { IsSpelledFromTo count first last bytes.now }
+    ensures { IfOk result (λ found. SpellsFromTo count first last bytes.now found.items) }
 {
-    if are_small(bytes, first) {
+    if are_small_in_block(bytes, count, first, last) {
         decode_short(alloc, bytes, count, first, last)
     } else {
         decode_gaps(alloc, bytes, count, first, last)
@@ -211,8 +210,8 @@ fn decode_gaps(
     first: u64,
     last: u64,
 ) -> Result<Vec<u64>, NoMemory>
-    requires { (addresses : List ℕ) × SpellsAfterFirst first addresses bytes.now × AreFromTo count first last addresses }
-    ensures { IfOk result (λ found. SpellsAfterFirst first found.items bytes.now × AreFromTo count first last found.items) }
+    requires { IsSpelledFromTo count first last bytes.now }
+    ensures { IfOk result (λ found. SpellsFromTo count first last bytes.now found.items) }
 {
     let mut addresses = Vec::with_capacity(alloc, count)?;
     addresses.push_reserved(first);
@@ -233,7 +232,7 @@ fn decode_gaps(
 fn are_gaps(bytes: &[u8], count: usize, first: u64, last: u64) -> bool
     requires count { 0 < count }
     requires within { first ≤ last }
-    ensures { MatchBool result ((found : List ℕ) × SpellsAfterFirst first found bytes.now × AreFromTo count first last found)
+    ensures { MatchBool result (IsSpelledFromTo count first last bytes.now)
         ((addresses : List ℕ) → SpellsAfterFirst first addresses bytes.now → AreFromTo count first last addresses → ⊥) }
 {
     let mut rest = bytes;

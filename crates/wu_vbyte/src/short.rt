@@ -1,8 +1,8 @@
 //! Blocks whose numbers take one byte or two each, as those of a frequent word: they are read byte by
 //! byte with no branch on where a number ends, which can't be foretold.
-ghost use Rattle.std.specs.Prelude.{◌≡◌, ◌+◌, ◌*◌, ◌%◌, ◌^◌, ◌<◌, ◌≤◌, ◌⊎◌, ℕ, List, IfOk, MatchBool, length};
+ghost use Rattle.std.specs.Prelude.{◌≡◌, ◌+◌, ◌*◌, ◌%◌, ◌^◌, ◌<◌, ◌≤◌, ◌⊎◌, ⊤, ℕ, List, IfOk, MatchBool, length};
 ghost use Rattle.wu_vbyte.specs.declared.short.TheConstants.{SHORT_LEN, FIRST_MAX};
-ghost use Rattle.wu_vbyte.specs.Blocks.{SpellsAfterFirst, AreFromTo, AreShort, AreSingle};
+ghost use Rattle.wu_vbyte.specs.Blocks.{SpellsAfterFirst, IsSpelledFromTo, SpellsFromTo, AreFromTo, AreShort, AreSingle, HasEnd, HasPart, HaveEach};
 
 use std::alloc::Global;
 use wu_base::NoMemory;
@@ -22,15 +22,34 @@ pub fn are_small(bytes: &[u8], first: u64) -> bool
     bytes.len() <= SHORT_LEN && first <= FIRST_MAX && are_short(bytes)
 }
 
+/// The same of a block's spelling. Where its addresses lie near to each other no byte is looked at.
+pub fn are_small_in_block(bytes: &[u8], count: usize, first: u64, last: u64) -> bool
+    requires { IsSpelledFromTo count first last bytes.now }
+    ensures { MatchBool result ((length bytes.now ≤ 255) × (first ≤ 2 ^ 63) × AreShort 0 bytes.now) ⊤ }
+{
+    if is_near(first, last) && bytes.len() <= SHORT_LEN && first <= FIRST_MAX {
+        true
+    } else {
+        are_small(bytes, first)
+    }
+}
+
+/// Whether no difference between addresses from `first` to `last` takes more than two bytes.
+fn is_near(first: u64, last: u64) -> bool
+    requires { first ≤ last }
+    ensures { MatchBool result (last < first + 2 ^ 14) ⊤ }
+{
+    last - first < 1 << 14
+}
+
 /// Whether the bytes are those of a block of `count` addresses from `first` to `last` after the first number.
 pub fn is_short(bytes: &[u8], count: usize, first: u64, last: u64) -> bool
     requires few { length bytes.now ≤ 255 }
     requires first { first ≤ 2 ^ 63 }
     requires short { AreShort 0 bytes.now }
     ensures { MatchBool result
-        ((found : List ℕ) × SpellsAfterFirst first found bytes.now × AreFromTo count first last found)
-        ((addresses : List ℕ) → SpellsAfterFirst first addresses bytes.now
-        → AreFromTo count first last addresses → ⊥) }
+        (IsSpelledFromTo count first last bytes.now)
+        ((addresses : List ℕ) → SpellsAfterFirst first addresses bytes.now → AreFromTo count first last addresses → ⊥) }
 {
     // Sums of few bits, so that many bytes are added at once.
     let mut all: u16 = 0;
@@ -69,24 +88,22 @@ pub fn decode_short(
     requires few { length bytes.now ≤ 255 }
     requires first { first ≤ 2 ^ 63 }
     requires short { AreShort 0 bytes.now }
-    requires spelled { (addresses : List ℕ) × SpellsAfterFirst first addresses bytes.now
-        × AreFromTo count first last addresses }
-    ensures { IfOk result (λ found. SpellsAfterFirst first found.items bytes.now × AreFromTo count first last found.items) }
+    requires spelled { IsSpelledFromTo count first last bytes.now }
+    ensures { IfOk result (λ found. SpellsFromTo count first last bytes.now found.items) }
 {
     if bytes.len() + 1 == count {
         return decode_single(alloc, bytes, first, last);
     }
+    let parts = parts_of(bytes);
+    let ends = ends_of(bytes);
     let mut addresses = [0; SHORT_LEN + 1];
     addresses[0] = first;
     let mut taken = 1;
     let mut total = first;
-    let mut before = 0;
     for at in 0..bytes.len() {
-        let byte = bytes[at];
-        total += part(before, byte);
+        total += u64::from(parts[at]);
         addresses[taken] = total;
-        taken += ended(byte);
-        before = byte;
+        taken += usize::from(ends[at] % 2);
     }
     let mut found = Vec::with_capacity(alloc, count)?;
     found.extend_from_slice(&addresses[..taken])?;
@@ -98,10 +115,8 @@ fn decode_single(alloc: Global, bytes: &[u8], first: u64, last: u64) -> Result<V
     requires few { length bytes.now ≤ SHORT_LEN }
     requires first { first ≤ FIRST_MAX }
     requires single { AreSingle bytes.now }
-    requires spelled { (addresses : List ℕ) × SpellsAfterFirst first addresses bytes.now
-        × AreFromTo (length bytes.now + 1) first last addresses }
-    ensures { IfOk result (λ found. SpellsAfterFirst first found.items bytes.now
-        × AreFromTo (length bytes.now + 1) first last found.items) }
+    requires spelled { IsSpelledFromTo (length bytes.now + 1) first last bytes.now }
+    ensures { IfOk result (λ found. SpellsFromTo (length bytes.now + 1) first last bytes.now found.items) }
 {
     let mut addresses = [0; SHORT_LEN + 1];
     addresses[0] = first;
@@ -141,15 +156,44 @@ fn fault(before: u8, byte: u8) -> u8
     u8::from(byte == 0 || before >= 128 && byte >= 128)
 }
 
+/// What each byte adds to its number. Takes no branch on a byte, so that many are looked at at once.
+#[inline(always)]
+fn parts_of(bytes: &[u8]) -> [u16; SHORT_LEN]
+    requires { length bytes.now ≤ SHORT_LEN }
+    ensures long { length result ≡ SHORT_LEN }
+    ensures parts { HaveEach HasPart 0 bytes.now result }
+{
+    let mut parts = [0; SHORT_LEN];
+    let mut before = 0;
+    for at in 0..bytes.len() {
+        let byte = bytes[at];
+        parts[at] = part(before, byte);
+        before = byte;
+    }
+    parts
+}
+
+/// How many numbers end at each byte, found in the same way.
+#[inline(always)]
+fn ends_of(bytes: &[u8]) -> [u8; SHORT_LEN]
+    requires { length bytes.now ≤ SHORT_LEN }
+    ensures long { length result ≡ SHORT_LEN }
+    ensures ends { HaveEach HasEnd 0 bytes.now result }
+{
+    let mut ends = [0; SHORT_LEN];
+    for at in 0..bytes.len() {
+        ends[at] = ended(bytes[at]);
+    }
+    ends
+}
+
 /// What a byte adds to the number, after the byte before it, which goes on with the number where its top
 /// bit is set.
 #[inline(always)]
-fn part(before: u8, byte: u8) -> u64
-    ensures below { result < 2 ^ 14 }
-    ensures small { before < 128 → result ≡ byte % 128 }
-    ensures large { 128 ≤ before → result ≡ byte % 128 * 128 }
+fn part(before: u8, byte: u8) -> u16
+    ensures { HasPart before byte result }
 {
-    let low = u64::from(byte % 128);
+    let low = u16::from(byte % 128);
     if before < 128 { low } else { low * 128 }
 }
 
@@ -187,10 +231,8 @@ fn goes_on(byte: u8) -> u8
 
 /// How many numbers end at the byte.
 #[inline(always)]
-fn ended(byte: u8) -> usize
-    ensures few { result ≤ 1 }
-    ensures one { byte < 128 → result ≡ 1 }
-    ensures none { 128 ≤ byte → result ≡ 0 }
+fn ended(byte: u8) -> u8
+    ensures { (before : ℕ) → HasEnd before byte result }
 {
-    usize::from(byte < 128)
+    u8::from(byte < 128)
 }

@@ -1,30 +1,48 @@
-use Rattle.std.proofs.Common.{◌∙◌, length-set, arith}
+use Rattle.std.proofs.Common.{◌^◌, ◌∙◌, refl, inl, length-set, arith}
 use Rattle.std.proofs.lemmas.List.{drop_more}
-use Rattle.wu_vbyte.proofs.ShortLemmas.{block_single, summed_next, summed_whole}
+use Rattle.wu_vbyte.proofs.BlockLemmas.{taken_first}
+use Rattle.wu_vbyte.proofs.ShortLemmas.{adds_next, block_single, summed_whole}
 use Rattle.wu_vbyte.proofs.short.decode_short.Goals as goal
+
+pub loop-at-init : goal.loop-at-init
+loop-at-init c = record {
+  room = refl;
+  some = omega arith;
+  few = omega arith;
+  small = omega arith;
+  adds = record {
+    before = 0;
+    short = c.requires.short;
+    have_parts = c.parts_of-parts.ensures.parts;
+    have_ends = c.ends_of-ends.ensures.ends;
+    summed = inl (omega arith, taken_first c.args.first (2 ^ 64) c.args.bytes.now (omega arith));
+  };
+}
 
 pub loop-at-preserved : goal.loop-at-preserved
 loop-at-preserved c =
     let i = c.loop-at.invariant in
-    let bytes = c.args.bytes.now in
-    let shown = drop_more bytes c.loop-at.at 0 c.loop-at-test.true in
-    let short = rw shown at i.short in
+    let at = c.loop-at.at in
+    let bytes = drop_more c.args.bytes.now at 0 c.loop-at-test.true in
+    let parts = drop_more c.parts_of-parts.result at 0
+    (omega (arith, c.requires.few, c.loop-at-test.true, c.parts_of-parts.ensures.long)) in
+    let ends = drop_more c.ends_of-ends.result at 0
+    (omega (arith, c.requires.few, c.loop-at-test.true, c.ends_of-ends.ensures.long)) in
+    let adds = rw (bytes, parts, ends) at i.adds in
     record {
       room = length-set _ _ _ ∙ i.room;
       some = omega (arith, i.some);
-      few = omega (arith, i.few, c.ended-taken.ensures.few);
-      small = omega (arith, i.small, c.part-total.ensures.below);
-      short = short.2;
-      summed = summed_next _ _ _ _ _ _ _ _ _ _ _ (rw shown at i.summed) short (omega (arith, c.type_inv.bytes c.loop-at.at))
-          c.part-total.ensures.small c.part-total.ensures.large (omega arith)
-          c.ended-taken.ensures.one c.ended-taken.ensures.none (omega (arith, i.few, i.room));
+      few = omega (arith, i.few, c.from-taken.ensures);
+      small = omega (arith, i.small, c.from-total.type_inv);
+      adds = adds_next _ _ _ _ _ _ _ _ _ _ _ _ _ adds c.from-total.ensures c.from-taken.ensures
+          (omega (arith, c.type_inv.bytes at)) (omega arith) (omega (arith, i.few, i.room));
     }
 
 pub returns : goal.returns
 returns c =
     let block = c.requires.spelled in
     let is = rw c.in_ok-found.ensures.items at c.in_ok-extend_from_slice.ensures.items in
-    let same = is ∙ summed_whole _ _ _ _ _ _ _ _ _ c.loop-at.invariant.summed (omega arith) block.1 in
+    let same = is ∙ summed_whole _ _ _ _ _ _ _ _ _ c.loop-at.invariant.adds.summed (omega arith) block.1 in
     rw same (block.1, block.2)
 
 pub decode_single-requires-clause-single : goal.decode_single-requires-clause-single
