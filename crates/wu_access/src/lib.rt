@@ -62,8 +62,8 @@ pub enum Want {
 ///    of the entries for her groups, where the owning bits are the entry of the node's group.
 /// 6. Anyone else: the bits of others.
 ///
-/// The user's groups ascend without repeats, as each tree keeps them. Takes no memory, and time that grows with
-/// the number of the list's entries, for each group among them times the logarithm of that of her groups.
+/// The user's groups ascend without repeats, as each tree keeps them. Takes no memory. The list's entries are
+/// gone through, and each of a group is looked for among hers by halves.
 #[inline(always)]
 pub fn allows(user: &UserRec, node: &Perm, acl: Option<&Acl>, want: Want) -> bool
     requires { IsStrictlySortedBy nat_cmp user.now.groups }
@@ -73,7 +73,7 @@ pub fn allows(user: &UserRec, node: &Perm, acl: Option<&Acl>, want: Want) -> boo
     allows_by_groups(user.uid, user.groups.as_slice(), node, acl, want)
 }
 
-/// The same as [`allows`], of the user of that number who is in these groups, where they stand.
+/// The same as [`allows`], of the user of that number who is in these groups.
 #[inline(always)]
 pub fn allows_by_groups(
     uid: Uid,

@@ -42,7 +42,8 @@ pub enum Ask {
     Terms {
         /// How many words to show at most, from 0 to K_MAX.
         k: u32,
-        /// What the words begin with, without differences of case; every word begins with the empty one.
+        /// What the words begin with, in the form in which words are compared, as `wu_terms::prefix_of`
+        /// gives it. Every word begins with the empty one.
         prefix: Bytes,
         /// Whether the words of the most files come first.
         top: bool,
@@ -105,14 +106,14 @@ pub struct TermLine {
 pub enum Answered {
     /// `hits` regions, in `files` files.
     Count {
-        /// How many regions there are, over all files.
+        /// How many regions there are, over all of the user's files.
         hits: u64,
         /// How many files have one or more of the regions.
         files: u64,
     },
     /// `hits` regions, in `files` files; the first of them are shown.
     Find {
-        /// How many regions there are, over all files.
+        /// How many regions there are, over all of the user's files.
         hits: u64,
         /// How many files have one or more of the regions.
         files: u64,

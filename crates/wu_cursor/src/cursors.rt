@@ -29,7 +29,7 @@ pub struct Cursor<'a> {
 }
 
 impl<'a> Cursor<'a> {
-    /// A cursor over the extents that `solve` lists. The calls ask for what `solve` does, and that each
+    /// A cursor over the extents that `solve` lists. The calls require what `solve` does, and that each
     /// frame ends before the next one starts: then starts and ends both ascend strictly in the list.
     pub fn new(expr: &'a Expr, frames: &'a [Range], lists: &'a [TermList]) -> Cursor<'a>
         ensures expr { result.expr.now ≡ expr.now }

@@ -1,5 +1,5 @@
-//! The program doesn't use this crate yet. It gives the extents that a region expression means, one at a
-//! time, from a place on: by the four access functions of Clarke, Cormack and Burkowski, "An Algebra for
+//! The extents that a region expression means, one at a time, from a place on; the program doesn't use
+//! this crate yet. They are found by the four access functions of Clarke, Cormack and Burkowski, "An Algebra for
 //! Structured Text Search and a Framework for its Implementation", The Computer Journal 38(1), 1995.
 //!
 //! Within a frame an expression answers its calls from those of its operands. `+`, `^` and `..` ask

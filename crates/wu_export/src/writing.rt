@@ -178,10 +178,10 @@ fn put_number(out: &mut Vec<u8>, number: u64) -> Result<(), NoMemory>
     put_decimal(out, number)
 }
 
-/// The most bytes of a command beside a name or a text.
+/// Room for a command beside a name or a text: enough for numbers of 32 bits, as those of nodes are.
 pub(crate) const COMMAND_MAX: usize = 48;
 
-/// How many bytes the commands of these paths have at most, where each byte of a name may be escaped. It is a
+/// How many bytes the commands of these paths may have, where each byte of a name may be escaped. It is a
 /// wish for memory alone, and no promise.
 pub(crate) fn room_for(paths: &[Path]) -> usize {
     let mut room = 0usize;

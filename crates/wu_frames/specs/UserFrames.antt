@@ -33,7 +33,7 @@ length_of ranges = sum_by (λ range. range.len) ranges
 -- the frames of the user of that number, for that tree and those live ranges
 pub record AreFrames (fs : FileSystem) (live : Ranges) (uid : ℕ) (frames : Frames) : Type 0 where
   pub view : frames.seen ≡ view_of fs uid
-  -- one frame for each file of the view, and no other
+  -- one frame for each file of the view that has a live range, and no other
   pub of_view : ∥ IsPermutation (frames_in live (view_of fs uid)) frames.by_address ∥₁
   pub ascending : AreApart frames.ranges
   pub ranges_alone : frames.ranges ≡ map (λ frame. frame.range) frames.by_address

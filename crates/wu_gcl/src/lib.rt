@@ -11,8 +11,8 @@
 //! operand    = quoted | "[" digits "]" | "file" | "line" | "(" expression ")"
 //! ```
 //!
-//! A quoted text is `"`, bytes other than `"`, and `"`. `file` and `line` are words only where all the
-//! letters that stand there are. Spaces and TABs may stand between tokens. A quoted text that is
+//! A quoted text is `"`, bytes other than `"`, and `"`. `file` and `line` stand alone: no other letter
+//! comes right before or behind them. Spaces and TABs may stand between tokens. A quoted text that is
 //! exactly `<file>`, `</file>`, `<line>` or `</line>` is that tag, and any other the phrase of its words.
 #![tactic(auto)]
 

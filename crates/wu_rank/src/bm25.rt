@@ -21,8 +21,8 @@ pub fn bm25_weigh(idf: u32, f: u64, l: u64, n: u64, t: u128) -> u64
 }
 
 /// A way to weigh the words of one query: a closure that answers the BM25 weight for the number
-/// of the units and their summed length, which are kept beside it. What is known of the closure
-/// is a condition of each call that asks it.
+/// of the units and their summed length, which are kept beside it. Each call that uses the
+/// closure requires what it needs to know of it.
 #[derive(Drop)]
 pub struct Ranker<F> {
     /// Answers the weight for an inverse document frequency, a word's count and a unit's length.

@@ -96,8 +96,8 @@ fn scores_of<F: Fn(u32, u64, u64) -> u64>(
 /// and `t`: where there is a unit, the number of the units and their summed length. Over no units nothing
 /// is listed. The one error is out of memory.
 ///
-/// Each word's addresses are swept once over each part of the units that ascends. Nothing is made but for
-/// these parts and for a word and a unit that holds it. The first `k` are chosen in linear time on
+/// Each word's addresses are swept once over each part of the units that ascends. Memory is taken for these
+/// parts, and for each pair of a word and a unit that holds it. The first `k` are chosen in linear time on
 /// average, and only they are sorted.
 pub fn rank<F: Fn(u32, u64, u64) -> u64>(
     alloc: Global,

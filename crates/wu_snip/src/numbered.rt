@@ -81,7 +81,7 @@ impl<'a> NumberedLines<'a> {
         None
     }
 
-    /// The line, if there is one and it ends at this address or after, else the next line that does.
+    /// The line, if it ends at this address or after, else the next one that does; none where none is given.
     pub(crate) fn reaching(
         &mut self,
         line: Option<NumberedLine<'a>>,

@@ -4,8 +4,8 @@
 //!
 //! In the list of every expression starts and ends both ascend strictly, so that each operator walks
 //! the lists of its operands once, side by side. A list is that of all frames, one behind the other;
-//! frames without an address of a needed term are left out before, unless that term is a word that
-//! most frames have.
+//! frames without an address of a needed term are left out before, unless that term has four addresses
+//! or more for each frame.
 #![tactic(auto)]
 
 mod containment;

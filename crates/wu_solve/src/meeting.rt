@@ -18,9 +18,9 @@ use wu_gcl::{Expr, Op};
 /// it.
 const MANY: usize = 4;
 
-/// The frames but those without an address of the rarest needed term. None, if all frames serve as
-/// well: no term is needed, or the rarest has many addresses for each frame, and the expression lists
-/// only the places of words.
+/// Frames that serve as well as these: all but those without an address of the rarest needed term. None,
+/// if all frames do: no term is needed, or the rarest has many addresses for each frame, and the
+/// expression lists only the places of words.
 pub fn frames_with_needed(
     alloc: Global,
     expr: &Expr,

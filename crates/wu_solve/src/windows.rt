@@ -34,7 +34,7 @@ pub fn held_by_windows(
     short_in(alloc, wanted, extents, size, &roomy)
 }
 
-/// Whether each of the frames has at least so many addresses.
+/// Whether each of the frames has at least so many addresses. If not, those that have are picked out.
 fn have_room(size: u64, frames: &[Range]) -> bool
     ensures { IsTrue result → All (λ frame. size ≤ frame.len) frames.now }
 {

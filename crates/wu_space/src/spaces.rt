@@ -102,8 +102,8 @@ impl Space {
     }
 
     /// Gives up the live range of the file, which has one. Its addresses are given to no other file. Takes no memory, and time
-    /// logarithmic in the number of live ranges; now and then, after as many calls as the pass has ranges,
-    /// it also takes one pass over them.
+    /// logarithmic in the number of live ranges. Once in a while it also takes one pass over all ranges, after at
+    /// least as many calls.
     pub fn release(&mut self, ino: Ino)
         requires { IsSome (range_with self.old.ranges ino) }
         ensures { self.new ≡ released self.old ino }

@@ -21,7 +21,7 @@ pub const LINE_END: &[u8] = b"</line>";
 /// A term of a text of at most [`TEXT_MAX`](wu_base::TEXT_MAX) bytes, and the place of its bytes
 /// there: from `start` on, up to but without `end`, both counted in bytes from the text's first, which
 /// is 0. A tag takes no byte, so its `end` is its `start`. A word takes the bytes of its whole run,
-/// also those that don't count.
+/// also those that its term has no room for.
 #[derive(Clone, Debug, PartialEq, Eq, Drop)]
 pub struct Token {
     /// From 1 to [`WORD_MAX`](wu_base::WORD_MAX) bytes.

@@ -26,11 +26,13 @@ use wu_base::{DEPTH_MAX, Gid, Ino, NoMemory, ROOT, Sequence, Uid};
 impl Tree {
     /// The tree of exactly these nodes, links, users and access lists, or None where they make no tree. They make
     /// one where users ascend by number, nodes by number, links by directory and then by name, and access lists
-    /// by the number of the node that has it, without repeats, and where they keep the rules: a user's groups ascend without repeats; no node has number 0, and a mode is
-    /// at most 7777 octal; node 1 is a directory, and no link names it; a link stands in a directory that is
-    /// there and names a node that is there, and its name is a name; any other directory has one link, and is
-    /// reached from node 1 at a depth of at most 255; a file has a link; an access list is of a node that is there,
-    /// its bits are at most 7, and its entries ascend by number without repeats. The only error is out of memory.
+    /// by the number of the node that has it, without repeats, and where they keep the rules: a user's groups
+    /// ascend without repeats; no node has number 0, and a mode is at most 7777 octal; node 1 is a directory, and
+    /// no link names it; a link stands in a directory that is there and names a node that is there, and its name
+    /// is a name; any other directory has one link, and is reached from node 1 at a depth of at most 255; a file
+    /// has a link; an access list is of a node that is there, its bits are at most 7, and its entries ascend by
+    /// number without repeats. The only error is out of memory.
+    ///
     /// The time is near linear: for each link a binary search and a look-up, for each directory and user a few, and
     /// one walk over nodes and access lists together.
     pub fn rebuild(

@@ -1,6 +1,6 @@
 //! Blocks whose numbers take one byte or two each, as those of a frequent word: they are read byte by
 //! byte with no branch on where a number ends, which can't be foretold.
-ghost use Rattle.std.specs.Prelude.{◌≡◌, ◌+◌, ◌*◌, ◌%◌, ◌^◌, ◌<◌, ◌≤◌, ◌⊎◌, ⊤, ℕ, List, IfOk, MatchBool, length};
+ghost use Rattle.std.specs.Prelude.{◌≡◌, ◌+◌, ◌*◌, ◌%◌, ◌^◌, ◌<◌, ◌≤◌, ◌⊎◌, ℕ, List, IfOk, MatchBool, length};
 ghost use Rattle.wu_vbyte.specs.declared.short.TheConstants.{SHORT_LEN, FIRST_MAX};
 ghost use Rattle.wu_vbyte.specs.Blocks.{SpellsAfterFirst, IsSpelledFromTo, SpellsFromTo, AreFromTo, AreShort, AreSingle, HasEnd, HasPart, HaveEach};
 
@@ -25,7 +25,8 @@ pub fn are_small(bytes: &[u8], first: u64) -> bool
 /// The same of a block's spelling. Where its addresses lie near to each other no byte is looked at.
 pub fn are_small_in_block(bytes: &[u8], count: usize, first: u64, last: u64) -> bool
     requires { IsSpelledFromTo count first last bytes.now }
-    ensures { MatchBool result ((length bytes.now ≤ 255) × (first ≤ 2 ^ 63) × AreShort 0 bytes.now) ⊤ }
+    ensures { MatchBool result ((length bytes.now ≤ 255) × (first ≤ 2 ^ 63) × AreShort 0 bytes.now)
+        (length bytes.now ≤ 255 → first ≤ 2 ^ 63 → AreShort 0 bytes.now → ⊥) }
 {
     if is_near(first, last) && bytes.len() <= SHORT_LEN && first <= FIRST_MAX {
         true
@@ -34,10 +35,10 @@ pub fn are_small_in_block(bytes: &[u8], count: usize, first: u64, last: u64) -> 
     }
 }
 
-/// Whether no difference between addresses from `first` to `last` takes more than two bytes.
+/// Whether no difference between addresses from `first` to `last` can take more than two bytes.
 fn is_near(first: u64, last: u64) -> bool
     requires { first ≤ last }
-    ensures { MatchBool result (last < first + 2 ^ 14) ⊤ }
+    ensures { MatchBool result (last < first + 2 ^ 14) (first + 2 ^ 14 ≤ last) }
 {
     last - first < 1 << 14
 }
