@@ -15,7 +15,7 @@ module _ {X : Type 0} where
   filter-none p [] a = refl
   filter-none p (x ∷ xs) a = rw a.0 (filter-none p xs a.1)
 
-  filter-all : (p : X → Bool) (xs : List X) → AllByRecursion (λ x. p x ≡ true) xs → filter p xs ≡ xs
+  pub filter-all : (p : X → Bool) (xs : List X) → AllByRecursion (λ x. p x ≡ true) xs → filter p xs ≡ xs
   filter-all p [] a = refl
   filter-all p (x ∷ xs) a = rw a.0 (ap (λ (l : List X). x ∷ l) (filter-all p xs a.1))
 
@@ -27,7 +27,7 @@ module _ {X : Type 0} where
   all_weaker P Q [] h a = tt
   all_weaker P Q (x ∷ xs) h a = (h x a.0, all_weaker P Q xs h a.1)
 
-  all_both : (P Q R : X → Type 0) (xs : List X) → ((x : X) → P x → Q x → R x) → AllByRecursion P xs → AllByRecursion Q xs
+  pub all_both : (P Q R : X → Type 0) (xs : List X) → ((x : X) → P x → Q x → R x) → AllByRecursion P xs → AllByRecursion Q xs
       → AllByRecursion R xs
   all_both P Q R [] h a b = tt
   all_both P Q R (x ∷ xs) h a b = (h x a.0 b.0, all_both P Q R xs h a.1 b.1)
@@ -43,7 +43,7 @@ dead_below low high address (f ∷ fs) l o =
     let away : is_in f address ≡ false = and_left _ _ (lt-leb f.start address (omega (arith, o.0))) in
     rw away (dead_below (f.start + f.len) high address fs (omega (arith, o.0)) o.1)
 
-inside_is_live : (f : Range) (fs : List Range) (address : ℕ) → f.start ≤ address → address < f.start + f.len
+pub inside_is_live : (f : Range) (fs : List Range) (address : ℕ) → f.start ≤ address → address < f.start + f.len
     → is_live (f ∷ fs) address ≡ true
 inside_is_live f fs address l h =
     let inside : is_in f address ≡ true = and_from _ _ (le-leb f.start address l) (lt-ltb address (f.start + f.len) h) in

@@ -2,6 +2,7 @@ pub mod Ascending
 pub mod Cutting
 pub mod Tallying
 pub mod Spans
+pub mod CountedBlocks
 pub mod Caching
 pub mod Asking
 pub mod Walks

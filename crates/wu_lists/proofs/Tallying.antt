@@ -12,7 +12,7 @@ use Rattle.wu_layout.specs.Postings.{is_live}
 use Rattle.wu_base.specs.Ranges.{frames_with, is_in}
 use Rattle.wu_lists.specs.declared.tallies.Tally.{Tally}
 use Rattle.wu_lists.specs.Ascending.{AscendBetween, AreInOrder}
-use Rattle.wu_lists.specs.Gaining.{opens, tally_on, tally_on-alike, tally_on-append, with_address, with_frame}
+use Rattle.wu_lists.specs.Gaining.{opens, tally_on, tally_on-alike, tally_on-append, with_address, with_frame, with_several}
 use Rattle.wu_lists.specs.Tallying.{Counts, Tallies, after_last, tally_of}
 use Rattle.wu_lists.proofs.Ascending.{all_from, ascend-bounds, ascend-filter, ascend-last, ascend-length, order-lower}
 use Rattle.wu_lists.proofs.Cutting.{all_front, dead_below}
@@ -87,7 +87,7 @@ module _ (f : Range) (later : List Range) (high : ℕ) (order : AreInOrder 0 hig
       ∙ more_inside (record { hits = hits; frames = t.frames; after = x + 1 }) xs (omega arith) (omega (arith, a.0)) a.1 b.1
       ∙ ap (λ (n : ℕ). record { hits = n; frames = t.frames; after = after_last (x + 1) xs }) same
 
-  inside_frame : (t : Tally) (xs : List ℕ) → AllByRecursion (λ x. f.start ≤ x) xs → AllByRecursion (λ x. x < f.start + f.len) xs
+  pub inside_frame : (t : Tally) (xs : List ℕ) → AllByRecursion (λ x. f.start ≤ x) xs → AllByRecursion (λ x. x < f.start + f.len) xs
       → tally_on (f ∷ later) t xs ≡ with_frame f.start t xs
   inside_frame t [] a b = refl
   inside_frame t (x ∷ xs) a b =
@@ -137,16 +137,19 @@ pub after_place : (address : ℕ) (later : List ℕ) (d : ℕ) → after_last (a
 after_place address [] d = refl
 after_place address (x ∷ later) d = after_place x later d
 
-pub counted_frame : (start : ℕ) (t now : Tally) (addresses : List ℕ) (d : ℕ) → 0 < length addresses
-    → now.hits ≡ min (t.hits + length addresses) (2 ^ 64 - 1)
+pub counted_several : (start : ℕ) (t now : Tally) (count after : ℕ) → now.hits ≡ min (t.hits + count) (2 ^ 64 - 1)
     → now.frames ≡ cond (nat_le t.after start) (min (t.frames + 1) (2 ^ 64 - 1)) t.frames
-    → tally_with now.hits now.frames (get_or addresses (length addresses - 1) d + 1) ≡ with_frame start t addresses
-counted_frame start t now [] d some h f = absurd (omega arith)
-counted_frame start t now (x ∷ xs) d some h f =
+    → tally_with now.hits now.frames after ≡ with_several start t count after
+counted_several start t now count after h f =
+    same_tally now.hits now.frames after (min (t.hits + count) (2 ^ 64 - 1))
+    (cond (nat_le t.after start) (min (t.frames + 1) (2 ^ 64 - 1)) t.frames) after h f refl
+
+pub counted_frame : (start : ℕ) (t : Tally) (addresses : List ℕ) (d : ℕ) → 0 < length addresses
+    → with_several start t (length addresses) (get_or addresses (length addresses - 1) d + 1) ≡ with_frame start t addresses
+counted_frame start t [] d some = absurd (omega arith)
+counted_frame start t (x ∷ xs) d some =
     let place : length (x ∷ xs) - 1 ≡ length xs = omega arith in
-    same_tally now.hits now.frames (get_or (x ∷ xs) (length (x ∷ xs) - 1) d + 1) (min (t.hits + length (x ∷ xs)) (2 ^ 64 - 1))
-    (cond (nat_le t.after start) (min (t.frames + 1) (2 ^ 64 - 1)) t.frames) (after_last (x + 1) xs) h f
-    (ap (λ (n : ℕ). get_or (x ∷ xs) n d + 1) place ∙ sym (after_place x xs d))
+    ap (with_several start t (length (x ∷ xs))) (ap (λ (n : ℕ). get_or (x ∷ xs) n d + 1) place ∙ sym (after_place x xs d))
 
 -- ---- one more address than those of a tally
 

@@ -1,11 +1,12 @@
 -- What is gained of blocks' addresses: those in frames are put at the end of others, or counted, or all are gathered.
-use Rattle.std.specs.Prelude.{ℕ, ◌≡◌, ◌+◌, ◌-◌, ◌≤◌, ◌^◌, ◌&&◌, Bool, true, false, min, nat_le, length, List, [], ◌∷◌, ◌++◌, if◌then◌else◌}
+use Rattle.std.specs.Prelude.{ℕ, ◌≡◌, ◌+◌, ◌-◌, ◌≤◌, ◌^◌, ◌&&◌, Bool, true, false, min, nat_le, nat_lt, length, List, [], ◌∷◌, ◌++◌, if◌then◌else◌}
 use Rattle.std.specs.Prelude.{filter}
 use Rattle.std.specs.List.{AllByRecursion, list_any}
 use Rattle.std.proofs.Common.{refl, ap, ap₂, ◌∙◌, cond}
 use Rattle.wu_base.specs.declared.addresses.Range.{Range}
 use Rattle.wu_base.specs.Ranges.{is_in}
 use Rattle.wu_layout.specs.Postings.{is_live}
+use Rattle.wu_lists.specs.declared.blocks.Block.{Block}
 use Rattle.wu_lists.specs.declared.tallies.Tally.{Tally}
 use Rattle.wu_lists.specs.Tallying.{after_last}
 
@@ -70,11 +71,24 @@ tally_on-alike left frames low alike tally (x ∷ xs) a =
       after = x + 1;
     }) xs) (alike tally.after x a.0)
 
--- the addresses of a frame that begins at `start`, all at once
+-- so many addresses of a frame that begins at `start`, all at once, the last of them right before `after`
+abbrev pub with_several : ℕ → Tally → ℕ → ℕ → Tally
+with_several start tally count after = record {
+  hits = min (tally.hits + count) (2 ^ 64 - 1);
+  frames = (if nat_le tally.after start then min (tally.frames + 1) (2 ^ 64 - 1) else tally.frames);
+  after = after;
+}
+
+-- these addresses of it
 abbrev pub with_frame : ℕ → Tally → List ℕ → Tally
 with_frame start tally [] = tally
-with_frame start tally (address ∷ later) = record {
-  hits = min (tally.hits + length (address ∷ later)) (2 ^ 64 - 1);
-  frames = (if nat_le tally.after start then min (tally.frames + 1) (2 ^ 64 - 1) else tally.frames);
-  after = after_last (address + 1) later;
-}
+with_frame start tally (address ∷ later) = with_several start tally (length (address ∷ later)) (after_last (address + 1) later)
+
+-- the frame has all of the block's span, from its first address to its last
+abbrev pub is_inside : Range → Block → Bool
+is_inside frame block = nat_le frame.start block.first && nat_lt block.last (frame.start + frame.len)
+
+-- the first of the frames has
+abbrev pub is_inside_first : List Range → Block → Bool
+is_inside_first [] block = false
+is_inside_first (frame ∷ later) block = is_inside frame block

@@ -5,7 +5,7 @@ ghost use Rattle.std.specs.List.{AllByRecursion};
 ghost use Rattle.wu_layout.specs.Postings.{is_live};
 ghost use Rattle.wu_lists.specs.Ascending.{AscendBetween, AreInOrder};
 ghost use Rattle.wu_lists.specs.Blocks.{meets};
-ghost use Rattle.wu_lists.specs.Gaining.{opens, tally_on};
+ghost use Rattle.wu_lists.specs.Gaining.{is_inside, is_inside_first, opens, tally_on};
 ghost use Rattle.wu_lists.specs.Tallying.{Counts};
 ghost use Rattle.wu_lists.specs.declared.blocks.Block.{Block};
 ghost use Rattle.wu_lists.specs.declared.tallies.Tally.{Tally};
@@ -90,6 +90,27 @@ pub(crate) fn is_needed(block: &Block, frames: &[Range]) -> bool
         [first, ..] => first.start <= block.last,
         [] => false,
     }
+}
+
+/// Whether the block's whole span lies in the first of the frames.
+#[inline]
+pub(crate) fn is_inside_first(block: &Block, frames: &[Range]) -> bool
+    requires { AreInOrder 0 (2 ^ 64 - 1) frames.now }
+    ensures { result ≡ is_inside_first frames.now block.now }
+{
+    match frames {
+        [first, ..] => is_inside(block, first),
+        [] => false,
+    }
+}
+
+/// Whether the block's whole span lies in the frame.
+#[inline]
+fn is_inside(block: &Block, frame: &Range) -> bool
+    requires { frame.now.start + frame.now.len ≤ 2 ^ 64 - 1 }
+    ensures { result ≡ is_inside frame.now block.now }
+{
+    frame.start <= block.first && block.last < frame.start + frame.len
 }
 
 /// The frames without those first ones that end before the address or at it. Takes time logarithmic in the

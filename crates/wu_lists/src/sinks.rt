@@ -8,7 +8,8 @@ ghost use Rattle.wu_lists.specs.declared.tallies.Tally.{Tally};
 ghost use Rattle.wu_layout.specs.Postings.{is_live};
 ghost use Rattle.wu_lists.specs.Ascending.{AscendBetween, AreInOrder};
 ghost use Rattle.wu_lists.specs.Blocks.{IsSpelling};
-ghost use Rattle.wu_lists.specs.Gaining.{LiveAlike, OpenAlike, filter-alike, from-filter, tally_on, tally_on-append, tally_on-alike};
+ghost use Rattle.wu_lists.specs.Gaining.{LiveAlike, OpenAlike, filter-alike, from-filter, is_inside_first};
+ghost use Rattle.wu_lists.specs.Gaining.{tally_on, tally_on-append, tally_on-alike};
 
 use crate::blocks::Block;
 use crate::frames::{count_within, put_within};
@@ -24,6 +25,9 @@ pub trait AddressSink {
     /// Whether it is given the bytes that spell them. Else it is given the addresses.
     ghost copied: { Bool };
 
+    /// Whether it counts them. Then of a block that lies in one frame it is given what the directory tells.
+    ghost counted: { Bool };
+
     /// These addresses of blocks were gained, with those outside the frames.
     ghost gained: { List Range → List ℕ → Self → Self → Type 0 };
 
@@ -32,6 +36,9 @@ pub trait AddressSink {
 
     fn copies(&self) -> bool
         ensures { result ≡ copied };
+
+    fn counts(&self) -> bool
+        ensures { result ≡ counted };
 
     /// Gains a block's addresses, if it is given addresses. Out of memory, none is gained.
     fn gain(&mut self, addresses: &[u64], frames: &[Range]) -> Result<(), NoMemory>
@@ -46,6 +53,13 @@ pub trait AddressSink {
         ensures ok { OnOk result (copied ≡ true → (frames : List Range) (addresses : List ℕ)
             → IsSpelling block.now addresses bytes.now → gained frames addresses self.old self.new) }
         ensures err { OnErr result ((frames : List Range) → gained frames [] self.old self.new) };
+
+    /// Gains the addresses of the block, which lie in the first of the frames, if it counts. Takes no memory.
+    fn gain_whole(&mut self, block: &Block, frames: &[Range])
+        requires order { AreInOrder 0 (2 ^ 64 - 1) frames.now }
+        requires inside { is_inside_first frames.now block.now ≡ true }
+        ensures { counted ≡ true → (addresses bytes : List ℕ) → IsSpelling block.now addresses bytes
+            → gained frames.now addresses self.old self.new };
 
     ghost none: { (frames : List Range) (sink : Self) → gained frames [] sink sink };
 
@@ -62,6 +76,8 @@ impl AddressSink for Vec<u64> {
 
     ghost copied = { false };
 
+    ghost counted = { false };
+
     ghost gained = { λ frames more before after. after.items ≡ before.items ++ filter (is_live frames) more };
 
     fn wants(&self) -> bool {
@@ -72,6 +88,10 @@ impl AddressSink for Vec<u64> {
         false
     }
 
+    fn counts(&self) -> bool {
+        false
+    }
+
     fn gain(&mut self, addresses: &[u64], frames: &[Range]) -> Result<(), NoMemory> {
         put_within(self, addresses, frames)
     }
@@ -79,6 +99,8 @@ impl AddressSink for Vec<u64> {
     fn gain_bytes(&mut self, _block: &Block, _bytes: &[u8]) -> Result<(), NoMemory> {
         Ok(())
     }
+
+    fn gain_whole(&mut self, _block: &Block, _frames: &[Range]) {}
 
     ghost none = { λ _ found. sym (append-nil found.items) };
 
@@ -97,6 +119,8 @@ impl AddressSink for Tally {
 
     ghost copied = { false };
 
+    ghost counted = { true };
+
     ghost gained = { λ frames more before after. after ≡ tally_on frames before (filter (is_live frames) more) };
 
     fn wants(&self) -> bool {
@@ -107,6 +131,10 @@ impl AddressSink for Tally {
         false
     }
 
+    fn counts(&self) -> bool {
+        true
+    }
+
     fn gain(&mut self, addresses: &[u64], frames: &[Range]) -> Result<(), NoMemory> {
         count_within(self, addresses, frames);
         Ok(())
@@ -114,6 +142,10 @@ impl AddressSink for Tally {
 
     fn gain_bytes(&mut self, _block: &Block, _bytes: &[u8]) -> Result<(), NoMemory> {
         Ok(())
+    }
+
+    fn gain_whole(&mut self, block: &Block, frames: &[Range]) {
+        self.count_to(frames[0].start, block.count, block.last);
     }
 
     ghost none = { λ _ _. refl };
@@ -134,6 +166,8 @@ impl AddressSink for GatheredBlocks {
 
     ghost copied = { true };
 
+    ghost counted = { false };
+
     ghost gained = { λ _ more before after. after ≡ before ++ more };
 
     fn wants(&self) -> bool {
@@ -144,6 +178,10 @@ impl AddressSink for GatheredBlocks {
         true
     }
 
+    fn counts(&self) -> bool {
+        false
+    }
+
     fn gain(&mut self, _addresses: &[u64], _frames: &[Range]) -> Result<(), NoMemory> {
         Ok(())
     }
@@ -151,6 +189,8 @@ impl AddressSink for GatheredBlocks {
     fn gain_bytes(&mut self, block: &Block, bytes: &[u8]) -> Result<(), NoMemory> {
         self.push(block, bytes)
     }
+
+    fn gain_whole(&mut self, _block: &Block, _frames: &[Range]) {}
 
     ghost none = { λ _ blocks. sym (append-nil blocks) };
 
@@ -169,6 +209,8 @@ impl AddressSink for Discard {
 
     ghost copied = { false };
 
+    ghost counted = { false };
+
     ghost gained = { λ _ _ before after. after ≡ before };
 
     fn wants(&self) -> bool {
@@ -179,6 +221,10 @@ impl AddressSink for Discard {
         false
     }
 
+    fn counts(&self) -> bool {
+        false
+    }
+
     fn gain(&mut self, _addresses: &[u64], _frames: &[Range]) -> Result<(), NoMemory> {
         Ok(())
     }
@@ -186,6 +232,8 @@ impl AddressSink for Discard {
     fn gain_bytes(&mut self, _block: &Block, _bytes: &[u8]) -> Result<(), NoMemory> {
         Ok(())
     }
+
+    fn gain_whole(&mut self, _block: &Block, _frames: &[Range]) {}
 
     ghost none = { λ _ _. refl };
 

@@ -1,8 +1,8 @@
 //! How many addresses lie in frames, and in how many of the frames one does.
-ghost use Rattle.std.specs.Prelude.{◌≡◌, ◌-◌, ◌^◌, ◌<◌, List, []};
+ghost use Rattle.std.specs.Prelude.{◌≡◌, ◌+◌, ◌-◌, ◌^◌, ◌<◌, List, []};
 ghost use Rattle.std.specs.List.{AllByRecursion};
 ghost use Rattle.wu_base.specs.declared.addresses.Range.{Range};
-ghost use Rattle.wu_lists.specs.Gaining.{with_frame};
+ghost use Rattle.wu_lists.specs.Gaining.{with_frame, with_several};
 ghost use Rattle.wu_lists.specs.Tallying.{tally_of};
 
 /// How many addresses were counted, and how many frames have one of them.
@@ -35,11 +35,20 @@ impl Tally {
         ensures { self.new ≡ with_frame start self.old addresses.now }
     {
         if let [.., last] = addresses {
-            self.hits = self.hits.saturating_add(addresses.len() as u64);
-            if self.after <= start {
-                self.frames = self.frames.saturating_add(1);
-            }
-            self.after = *last + 1;
+            self.count_to(start, addresses.len(), *last);
         }
+    }
+
+    /// The same of so many addresses, of which only the last one is known.
+    #[inline]
+    pub(crate) fn count_to(&mut self, start: u64, count: usize, last: u64)
+        requires { last < 2 ^ 64 - 1 }
+        ensures { self.new ≡ with_several start self.old count (last + 1) }
+    {
+        self.hits = self.hits.saturating_add(count as u64);
+        if self.after <= start {
+            self.frames = self.frames.saturating_add(1);
+        }
+        self.after = last + 1;
     }
 }

@@ -10,11 +10,11 @@ ghost use Rattle.wu_lists.specs.Ascending.{AreInOrder};
 ghost use Rattle.wu_lists.specs.Blocks.{IsSpelledIn, blocks_from, meets, needed};
 ghost use Rattle.wu_lists.specs.Causes.{IsCause, IsTermCause};
 ghost use Rattle.wu_lists.specs.Fetching.{AreGathered, HasBlock, HasBlocks, HasTerm};
-ghost use Rattle.wu_lists.specs.Gaining.{Gains};
+ghost use Rattle.wu_lists.specs.Gaining.{Gains, is_inside_first};
 ghost use Rattle.wu_lists.specs.Keeping.{Asks, AsksFirst, all_missing};
 
 use crate::blocks::Block;
-use crate::frames::{frames_from, is_needed};
+use crate::frames::{frames_from, is_inside_first, is_needed};
 use crate::lists::Lists;
 use crate::sinks::AddressSink;
 use wu_base::{Range, Trouble};
@@ -174,6 +174,8 @@ impl Lists {
             self.ask(store, block)
         } else if found.copies() {
             self.copy_block(store, block, found)
+        } else if found.counts() && is_inside_first(block, frames) {
+            self.count_block(store, block, frames, found)
         } else {
             self.put_block(store, block, frames, found)
         }
@@ -233,6 +235,39 @@ impl Lists {
     {
         self.ask(store, block)?;
         found.gain_bytes(block, self.first_kept(block))?;
+        Ok(())
+    }
+
+    /// The same for a sink that counts, of a block that lies in the first of the frames. It isn't
+    /// decoded: it was checked when it was read, so it has as many addresses as the directory tells,
+    /// up to the last one that it tells.
+    #[inline]
+    fn count_block<D: Store, S: AddressSink>(
+        &mut self,
+        store: &mut D,
+        block: &Block,
+        frames: &[Range],
+        found: &mut S,
+    ) -> Result<(), Trouble>
+        requires counted { S.counted ≡ true }
+        requires order { AreInOrder 0 (2 ^ 64 - 1) frames.now }
+        requires inside { is_inside_first frames.now block.now ≡ true }
+        ensures addresses { OnOk result (Gains (S.gained frames.now) (AreGathered (HasBlock block.now) frames.now block.now.blob
+            block.now.first (block.now.last + 1) (D.holds store.old) self.old) found.old found.new) }
+        ensures none { OnErr result (S.gained frames.now [] found.old found.new) }
+        ensures blocks { OnOk result (Asks (block.now ∷ []) (D.holds store.old) self.old self.new
+            (D.reads store.old) (D.reads store.new)) }
+        ensures kept { OnErr result (AsksFirst (block.now ∷ []) (D.holds store.old) self.old self.new) }
+        ensures holds { D.holds store.new ≡ D.holds store.old }
+        ensures moments { D.moments store.new ≡ D.moments store.old }
+        ensures calm { OnOk result (D.faults store.new ≡ D.faults store.old) }
+        ensures cause { IfErr result (IsCause (all_missing self.old.cap (keys_of self.old.entries) (block.now ∷ [])) block.now.blob
+            (IfSome (D.holds store.old) (λ content. IsSpelledIn content block.now → ⊥))
+            (D.faults store.old) (D.faults store.new) (D.reads store.old) (D.reads store.new)) }
+    {
+        self.ask(store, block)?;
+        let _bytes = self.first_kept(block);
+        found.gain_whole(block, frames);
         Ok(())
     }
 }
