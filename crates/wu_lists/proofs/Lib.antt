@@ -9,4 +9,5 @@ pub mod Walks
 pub mod Terms
 pub mod Readings
 pub mod Fetches
+pub mod AskedFor
 pub mod Copies

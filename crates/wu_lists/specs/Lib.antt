@@ -13,3 +13,4 @@ pub mod Tallying
 pub mod Gaining
 pub mod Walking
 pub mod Gathering
+pub mod Asking

@@ -1,12 +1,12 @@
 //! The blocks that are kept, and those that are read to be kept.
-ghost use Rattle.std.specs.Prelude.{◌≡◌, ◌+◌, ℕ, List, [], ◌∷◌, true, false, IfOk, IfErr, IfSome, MatchOption, OnErr, OnOk, Some};
+ghost use Rattle.std.specs.Prelude.{◌≡◌, ◌+◌, ℕ, List, [], ◌∷◌, true, false, IfOk, IfSome, MatchOption, OnErr, OnOk, Some};
 ghost use Rattle.std.specs.List.{list_any};
 ghost use Rattle.std.specs.Map.{keys_of};
 ghost use Rattle.lru.specs.LruCache.{IsValid};
 ghost use Rattle.wu_lists.specs.Ascending.{AscendBetween};
-ghost use Rattle.wu_lists.specs.Blocks.{IsSpelledIn, IsSpelling, bytes_of};
-ghost use Rattle.wu_lists.specs.Causes.{IsCause};
-ghost use Rattle.wu_lists.specs.Keeping.{AreHeld, Asks, AsksFirst, IsChecked, all_missing, asked, is_same};
+ghost use Rattle.wu_lists.specs.Asking.{AsksFor};
+ghost use Rattle.wu_lists.specs.Blocks.{IsSpelling, bytes_of};
+ghost use Rattle.wu_lists.specs.Keeping.{AreHeld, IsChecked, asked, is_same};
 
 use crate::blocks::{Block, check, read_bytes};
 use crate::lists::Lists;
@@ -27,15 +27,8 @@ impl Lists {
         ensures told { IfOk result (λ found. IfSome (D.holds store.old) (λ content. (bytes : List ℕ)
             → content.blobs block.now.blob ≡ Some bytes → AreHeld block.now.blob bytes self.old
             → IsSpelling block.now found.items (bytes_of block.now bytes))) }
-        ensures blocks { OnOk result (Asks (block.now ∷ []) (D.holds store.old) self.old self.new
-            (D.reads store.old) (D.reads store.new)) }
-        ensures kept { OnErr result (AsksFirst (block.now ∷ []) (D.holds store.old) self.old self.new) }
-        ensures holds { D.holds store.new ≡ D.holds store.old }
-        ensures moments { D.moments store.new ≡ D.moments store.old }
-        ensures calm { OnOk result (D.faults store.new ≡ D.faults store.old) }
-        ensures cause { IfErr result (IsCause (all_missing self.old.cap (keys_of self.old.entries) (block.now ∷ [])) block.now.blob
-            (IfSome (D.holds store.old) (λ content. IsSpelledIn content block.now → ⊥))
-            (D.faults store.old) (D.faults store.new) (D.reads store.old) (D.reads store.new)) }
+        ensures asks { AsksFor D.holds D.moments D.faults D.reads (block.now ∷ []) block.now
+            self.old self.new store.old store.new result }
     {
         self.ask(store, block)?;
         let addresses = block.addresses(self.alloc, self.first_kept(block))?;
@@ -45,15 +38,8 @@ impl Lists {
     /// Asks for the block, which is read where it isn't kept. It is then the one that was asked for last.
     #[inline]
     pub(crate) fn ask<D: Store>(&mut self, store: &mut D, block: &Block) -> Result<(), Trouble>
-        ensures blocks { OnOk result (Asks (block.now ∷ []) (D.holds store.old) self.old self.new
-            (D.reads store.old) (D.reads store.new)) }
-        ensures kept { OnErr result (AsksFirst (block.now ∷ []) (D.holds store.old) self.old self.new) }
-        ensures holds { D.holds store.new ≡ D.holds store.old }
-        ensures moments { D.moments store.new ≡ D.moments store.old }
-        ensures calm { OnOk result (D.faults store.new ≡ D.faults store.old) }
-        ensures cause { IfErr result (IsCause (all_missing self.old.cap (keys_of self.old.entries) (block.now ∷ [])) block.now.blob
-            (IfSome (D.holds store.old) (λ content. IsSpelledIn content block.now → ⊥))
-            (D.faults store.old) (D.faults store.new) (D.reads store.old) (D.reads store.new)) }
+        ensures { AsksFor D.holds D.moments D.faults D.reads (block.now ∷ []) block.now
+            self.old self.new store.old store.new result }
     {
         if self.is_kept(block) {
             return Ok(());
@@ -98,15 +84,9 @@ impl Lists {
     /// Reads, checks and keeps a block that isn't kept. After an error the same ones are kept as before.
     fn load<D: Store>(&mut self, store: &mut D, block: &Block) -> Result<(), Trouble>
         requires { list_any (is_same block.now) (keys_of self.old.entries) ≡ false }
-        ensures blocks { OnOk result (Asks (block.now ∷ []) (D.holds store.old) self.old self.new
-            (D.reads store.old) (D.reads store.new)) }
+        ensures asks { AsksFor D.holds D.moments D.faults D.reads (block.now ∷ []) block.now
+            self.old self.new store.old store.new result }
         ensures err { OnErr result (self.new ≡ self.old) }
-        ensures holds { D.holds store.new ≡ D.holds store.old }
-        ensures moments { D.moments store.new ≡ D.moments store.old }
-        ensures calm { OnOk result (D.faults store.new ≡ D.faults store.old) }
-        ensures cause { IfErr result (IsCause (block.now ∷ []) block.now.blob
-            (IfSome (D.holds store.old) (λ content. IsSpelledIn content block.now → ⊥))
-            (D.faults store.old) (D.faults store.new) (D.reads store.old) (D.reads store.new)) }
     {
         let room = self.take_room();
         let bytes = read_bytes(store, block, room)?;

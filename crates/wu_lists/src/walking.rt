@@ -7,6 +7,7 @@ ghost use Rattle.wu_base.specs.declared.limits.TheConstants.{ADDRESSES_MAX};
 ghost use Rattle.wu_base.specs.Ranges.{AreApart};
 ghost use Rattle.wu_part.specs.Directories.{AreBlocks};
 ghost use Rattle.wu_lists.specs.Ascending.{AreInOrder};
+ghost use Rattle.wu_lists.specs.Asking.{AsksFor};
 ghost use Rattle.wu_lists.specs.Blocks.{IsSpelledIn, blocks_from, meets, needed};
 ghost use Rattle.wu_lists.specs.Causes.{IsCause, IsTermCause};
 ghost use Rattle.wu_lists.specs.Fetching.{AreGathered, HasBlock, HasBlocks, HasTerm};
@@ -129,16 +130,8 @@ impl Lists {
         ensures addresses { OnOk result (S.wanted ≡ true → Gains (S.gained frames.now) (AreGathered (HasBlock block.now) frames.now
             block.now.blob block.now.first (block.now.last + 1) (D.holds store.old) self.old) found.old found.new) }
         ensures none { OnErr result (S.gained frames.now [] found.old found.new) }
-        ensures blocks { OnOk result (Asks (filter (meets frames.now) (block.now ∷ [])) (D.holds store.old) self.old self.new
-            (D.reads store.old) (D.reads store.new)) }
-        ensures kept { OnErr result (AsksFirst (filter (meets frames.now) (block.now ∷ [])) (D.holds store.old) self.old self.new) }
-        ensures holds { D.holds store.new ≡ D.holds store.old }
-        ensures moments { D.moments store.new ≡ D.moments store.old }
-        ensures calm { OnOk result (D.faults store.new ≡ D.faults store.old) }
-        ensures cause { IfErr result (IsCause
-            (all_missing self.old.cap (keys_of self.old.entries) (filter (meets frames.now) (block.now ∷ []))) block.now.blob
-            (IfSome (D.holds store.old) (λ content. IsSpelledIn content block.now → ⊥))
-            (D.faults store.old) (D.faults store.new) (D.reads store.old) (D.reads store.new)) }
+        ensures asks { AsksFor D.holds D.moments D.faults D.reads (filter (meets frames.now) (block.now ∷ [])) block.now
+            self.old self.new store.old store.new result }
     {
         if !is_needed(block, frames) {
             return Ok(());
@@ -160,15 +153,8 @@ impl Lists {
         ensures addresses { OnOk result (S.wanted ≡ true → Gains (S.gained frames.now) (AreGathered (HasBlock block.now) frames.now
             block.now.blob block.now.first (block.now.last + 1) (D.holds store.old) self.old) found.old found.new) }
         ensures none { OnErr result (S.gained frames.now [] found.old found.new) }
-        ensures blocks { OnOk result (Asks (block.now ∷ []) (D.holds store.old) self.old self.new
-            (D.reads store.old) (D.reads store.new)) }
-        ensures kept { OnErr result (AsksFirst (block.now ∷ []) (D.holds store.old) self.old self.new) }
-        ensures holds { D.holds store.new ≡ D.holds store.old }
-        ensures moments { D.moments store.new ≡ D.moments store.old }
-        ensures calm { OnOk result (D.faults store.new ≡ D.faults store.old) }
-        ensures cause { IfErr result (IsCause (all_missing self.old.cap (keys_of self.old.entries) (block.now ∷ [])) block.now.blob
-            (IfSome (D.holds store.old) (λ content. IsSpelledIn content block.now → ⊥))
-            (D.faults store.old) (D.faults store.new) (D.reads store.old) (D.reads store.new)) }
+        ensures asks { AsksFor D.holds D.moments D.faults D.reads (block.now ∷ []) block.now
+            self.old self.new store.old store.new result }
     {
         if !found.wants() {
             self.ask(store, block)
@@ -196,15 +182,8 @@ impl Lists {
         ensures addresses { OnOk result (Gains (S.gained frames.now) (AreGathered (HasBlock block.now) frames.now block.now.blob
             block.now.first (block.now.last + 1) (D.holds store.old) self.old) found.old found.new) }
         ensures none { OnErr result (S.gained frames.now [] found.old found.new) }
-        ensures blocks { OnOk result (Asks (block.now ∷ []) (D.holds store.old) self.old self.new
-            (D.reads store.old) (D.reads store.new)) }
-        ensures kept { OnErr result (AsksFirst (block.now ∷ []) (D.holds store.old) self.old self.new) }
-        ensures holds { D.holds store.new ≡ D.holds store.old }
-        ensures moments { D.moments store.new ≡ D.moments store.old }
-        ensures calm { OnOk result (D.faults store.new ≡ D.faults store.old) }
-        ensures cause { IfErr result (IsCause (all_missing self.old.cap (keys_of self.old.entries) (block.now ∷ [])) block.now.blob
-            (IfSome (D.holds store.old) (λ content. IsSpelledIn content block.now → ⊥))
-            (D.faults store.old) (D.faults store.new) (D.reads store.old) (D.reads store.new)) }
+        ensures asks { AsksFor D.holds D.moments D.faults D.reads (block.now ∷ []) block.now
+            self.old self.new store.old store.new result }
     {
         let addresses = self.addresses(store, block)?;
         found.gain(&addresses, frames)?;
@@ -223,15 +202,8 @@ impl Lists {
         ensures addresses { OnOk result ((frames : List Range) → Gains (S.gained frames) (AreGathered (HasBlock block.now) frames
             block.now.blob block.now.first (block.now.last + 1) (D.holds store.old) self.old) found.old found.new) }
         ensures none { OnErr result ((frames : List Range) → S.gained frames [] found.old found.new) }
-        ensures blocks { OnOk result (Asks (block.now ∷ []) (D.holds store.old) self.old self.new
-            (D.reads store.old) (D.reads store.new)) }
-        ensures kept { OnErr result (AsksFirst (block.now ∷ []) (D.holds store.old) self.old self.new) }
-        ensures holds { D.holds store.new ≡ D.holds store.old }
-        ensures moments { D.moments store.new ≡ D.moments store.old }
-        ensures calm { OnOk result (D.faults store.new ≡ D.faults store.old) }
-        ensures cause { IfErr result (IsCause (all_missing self.old.cap (keys_of self.old.entries) (block.now ∷ [])) block.now.blob
-            (IfSome (D.holds store.old) (λ content. IsSpelledIn content block.now → ⊥))
-            (D.faults store.old) (D.faults store.new) (D.reads store.old) (D.reads store.new)) }
+        ensures asks { AsksFor D.holds D.moments D.faults D.reads (block.now ∷ []) block.now
+            self.old self.new store.old store.new result }
     {
         self.ask(store, block)?;
         found.gain_bytes(block, self.first_kept(block))?;
@@ -239,8 +211,8 @@ impl Lists {
     }
 
     /// The same for a sink that counts, of a block that lies in the first of the frames. It isn't
-    /// decoded: it was checked when it was read, so it has as many addresses as the directory tells,
-    /// up to the last one that it tells.
+    /// decoded: it was checked when it was read, so its addresses are as many as the directory tells,
+    /// and lie between those that it tells.
     #[inline]
     fn count_block<D: Store, S: AddressSink>(
         &mut self,
@@ -255,17 +227,11 @@ impl Lists {
         ensures addresses { OnOk result (Gains (S.gained frames.now) (AreGathered (HasBlock block.now) frames.now block.now.blob
             block.now.first (block.now.last + 1) (D.holds store.old) self.old) found.old found.new) }
         ensures none { OnErr result (S.gained frames.now [] found.old found.new) }
-        ensures blocks { OnOk result (Asks (block.now ∷ []) (D.holds store.old) self.old self.new
-            (D.reads store.old) (D.reads store.new)) }
-        ensures kept { OnErr result (AsksFirst (block.now ∷ []) (D.holds store.old) self.old self.new) }
-        ensures holds { D.holds store.new ≡ D.holds store.old }
-        ensures moments { D.moments store.new ≡ D.moments store.old }
-        ensures calm { OnOk result (D.faults store.new ≡ D.faults store.old) }
-        ensures cause { IfErr result (IsCause (all_missing self.old.cap (keys_of self.old.entries) (block.now ∷ [])) block.now.blob
-            (IfSome (D.holds store.old) (λ content. IsSpelledIn content block.now → ⊥))
-            (D.faults store.old) (D.faults store.new) (D.reads store.old) (D.reads store.new)) }
+        ensures asks { AsksFor D.holds D.moments D.faults D.reads (block.now ∷ []) block.now
+            self.old self.new store.old store.new result }
     {
         self.ask(store, block)?;
+        // The bytes are called for only since that tells that they are the block's spelling.
         let _bytes = self.first_kept(block);
         found.gain_whole(block, frames);
         Ok(())

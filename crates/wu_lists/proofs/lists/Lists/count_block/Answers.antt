@@ -1,8 +1,9 @@
-use Rattle.std.proofs.Common.{ℕ, List, sym, ◌∙◌, ap}
+use Rattle.std.proofs.Common.{ℕ, List, sym, ◌∙◌, ap, rules}
 use Rattle.std.specs.Map.{keys_of}
 use Rattle.wu_base.proofs.Results.{on_err}
 use Rattle.wu_lists.specs.declared.blocks.Block.{Block}
 use Rattle.wu_lists.specs.Keeping.{asked}
+use Rattle.wu_lists.proofs.AskedFor.{asks-err, asks-ok}
 use Rattle.wu_lists.proofs.Fetches.{gathered-some, told-first}
 use Rattle.wu_lists.proofs.Spans.{spelled_ascend}
 use Rattle.wu_lists.proofs.lists.Lists.count_block.Goals as goal
@@ -10,6 +11,9 @@ use Rattle.wu_lists.proofs.lists.Lists.count_block.Goals as goal
 pub returns-in_err-ask-clause-none : goal.returns-in_err-ask-clause-none
 returns-in_err-ask-clause-none g c =
     on_err c.from_residual.result (g.met.S.AddressSink.none c.args.frames.now c.args.found.now)
+
+pub returns-in_err-ask-clause-asks : goal.returns-in_err-ask-clause-asks
+returns-in_err-ask-clause-asks g c = asks-err _ _ c.from_residual.result (search rules) c.in_err-ask.ensures
 
 pub first_kept-bytes-requires : goal.first_kept-bytes-requires
 first_kept-bytes-requires g c = (
@@ -30,3 +34,6 @@ returns-clause-addresses g c =
     (told-first block (g.D.Store.holds c.args.store.now) c.args.self.now c.ask.new.self bytes addresses
     c.first_kept-bytes.ensures.first.0 c.in_ok-ask.ensures.blocks.held c.first_kept-bytes.ensures.first.1 spelled)
     (c.gain_whole.ensures c.requires.counted addresses bytes spelled)
+
+pub returns-clause-asks : goal.returns-clause-asks
+returns-clause-asks g c = asks-ok _ _ _ c.in_ok-ask.ensures

@@ -1,7 +1,7 @@
-use Rattle.std.proofs.Common.{◌-◌, ◌^◌, ◌+◌, [], ◌∷◌, arith}
+use Rattle.std.proofs.Common.{◌-◌, ◌^◌, ◌+◌, arith, rules}
 use Rattle.wu_base.proofs.Results.{on_err}
 use Rattle.wu_lists.proofs.Ascending.{ascend-higher, ascend-lower}
-use Rattle.wu_lists.proofs.Asking.{first-all}
+use Rattle.wu_lists.proofs.AskedFor.{asks-err, asks-memory, asks-ok}
 use Rattle.wu_lists.proofs.Fetches.{gathered-some}
 use Rattle.wu_lists.proofs.lists.Lists.put_block.Goals as goal
 
@@ -9,11 +9,11 @@ pub returns-in_err-addresses-clause-none : goal.returns-in_err-addresses-clause-
 returns-in_err-addresses-clause-none g c =
     on_err c.from_residual.result (g.met.S.AddressSink.none c.args.frames.now c.args.found.now)
 
-pub returns-in_err-gain-clause-kept : goal.returns-in_err-gain-clause-kept
-returns-in_err-gain-clause-kept g c =
-    on_err c.from_residual-in_err-gain.result
-    (first-all (g.D.Store.holds c.args.store.now) c.args.self.now c.addresses.new.self (g.D.Store.reads c.args.store.now)
-    (g.D.Store.reads c.addresses.new.store) (c.args.block.now ∷ []) c.in_ok-addresses.ensures.blocks)
+pub returns-in_err-addresses-clause-asks : goal.returns-in_err-addresses-clause-asks
+returns-in_err-addresses-clause-asks g c = asks-err _ _ c.from_residual.result (search rules) c.in_err-addresses.ensures.asks
+
+pub returns-in_err-gain-clause-asks : goal.returns-in_err-gain-clause-asks
+returns-in_err-gain-clause-asks g c = asks-memory _ _ c.from_residual-in_err-gain.result (search rules) c.in_ok-addresses.ensures.asks
 
 pub gain-requires-clause-ascend : goal.gain-requires-clause-ascend
 gain-requires-clause-ascend g c =
@@ -29,3 +29,6 @@ returns-clause-addresses g c =
     (rw c.deref.ensures.value at c.in_ok-gain.ensures.ok) c.requires.given in
     gathered-some _ (g.S.AddressSink.gained frames) c.args.block.now frames (g.D.Store.holds c.args.store.now) c.args.self.now c.args.found.now
     c.gain.new.self c.in_ok-addresses.addresses.items c.in_ok-addresses.ensures.ascend c.in_ok-addresses.ensures.told gained
+
+pub returns-clause-asks : goal.returns-clause-asks
+returns-clause-asks g c = asks-ok _ _ _ c.in_ok-addresses.ensures.asks

@@ -37,15 +37,15 @@ loop-block-preserved g c =
     let block : Block = block_with blob low c.in-Some.count entry in
     let asks : Asks (filter (meets nearer) (block ∷ [])) holds c.loop-block.self c.visit.new.self (g.D.Store.reads c.loop-block.store)
     (g.D.Store.reads c.visit.new.store) =
-    rw (c.low.ensures, c.loop-block.invariant.holds) at c.in_ok-visit.ensures.blocks in
+    rw (c.low.ensures, c.loop-block.invariant.holds) at c.in_ok-visit.ensures.asks.blocks in
     let gains : g.S.AddressSink.wanted ≡ true
     → Gains (g.S.AddressSink.gained nearer) (AreGathered (HasBlock block) nearer blob entry.first (entry.last + 1) holds c.loop-block.self)
     c.loop-block.found c.visit.new.found =
     rw (c.low.ensures, c.loop-block.invariant.holds) at c.in_ok-visit.ensures.addresses in
     record {
-      holds = c.in_ok-visit.ensures.holds ∙ c.loop-block.invariant.holds;
-      moments = c.in_ok-visit.ensures.moments ∙ c.loop-block.invariant.moments;
-      calm = c.in_ok-visit.ensures.calm ∙ c.loop-block.invariant.calm;
+      holds = c.in_ok-visit.ensures.asks.holds ∙ c.loop-block.invariant.holds;
+      moments = c.in_ok-visit.ensures.asks.moments ∙ c.loop-block.invariant.moments;
+      calm = c.in_ok-visit.ensures.asks.calm ∙ c.loop-block.invariant.calm;
       walked =
           walked-next _ (g.S.AddressSink.gained frames) (g.S.AddressSink.wanted ≡ true) frames blob low c.args.dir.now.high c.args.entry holds
           c.args.self.now (g.D.Store.reads c.args.store.now) c.args.found.now c.loop-block.left.now c.loop-block.entry c.loop-block.self
@@ -136,7 +136,7 @@ returns-in_err-visit-clause-kept g c =
     let w = c.loop-block.invariant.walked in
     let block : Block = block_with blob low c.in-Some.count entry in
     let first : AsksFirst (filter (meets nearer) (block ∷ [])) holds c.loop-block.self c.visit.new.self =
-    rw (c.low.ensures, c.loop-block.invariant.holds) at c.in_err-visit.ensures.kept in
+    rw (c.low.ensures, c.loop-block.invariant.holds) at c.in_err-visit.ensures.asks.kept in
     on_err c.from_residual.result
     (subst (λ (bs : List Block). AsksFirst bs holds c.args.self.now c.visit.new.self)
     (asked-split _ (g.S.AddressSink.gained frames) (g.S.AddressSink.wanted ≡ true) frames blob low c.args.dir.now.high all holds c.args.self.now
