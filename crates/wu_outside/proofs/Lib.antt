@@ -3,3 +3,4 @@ pub mod Handing
 pub mod Reading
 pub mod Sending
 pub mod Survival
+pub mod Untold

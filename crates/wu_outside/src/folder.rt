@@ -1,5 +1,7 @@
 //! A store in a folder: blob n in the file `b` and the decimal n, the root in the file `root`.
-ghost use Rattle.std.specs.Prelude.{◌≡◌, ◌==◌, None, true, position, IfOk, IfSome, IsSome, OnOk, option_copied};
+ghost use Rattle.std.specs.Prelude.{◌≡◌, ◌==◌, ◌⊎◌, filter, not, [], None, true, position, IfOk, IfSome, IsSome, OnOk, OnErr, option_copied};
+ghost use Rattle.std.specs.Ordering.{nat_cmp};
+ghost use Rattle.std.specs.BTreeSet.{insert_key};
 ghost use Rattle.wu_outside.specs.Faults.{HasFaultCause};
 
 use crate::disk::{
@@ -84,6 +86,9 @@ where
     fn hold(&mut self) -> Result<bool, Fault>
         ensures cause { HasFaultCause self.old.failures.count self.new.failures.count result }
         ensures held { result ≡ Ok true → IsSome self.new.held }
+        ensures still_open { self.new.open.items ≡ self.old.open.items }
+        ensures unsynced { self.new.unsynced.keys ≡ self.old.unsynced.keys }
+        ensures named { self.new.is_named ≡ self.old.is_named }
     {
         if self.held.is_none() {
             self.held = take_folder(&mut self.failures, self.files, self.folder.as_str())?;
@@ -95,6 +100,9 @@ where
     fn need_folder(&mut self) -> Result<(), Fault>
         ensures cause { HasFaultCause self.old.failures.count self.new.failures.count result }
         ensures held { OnOk result (IsSome self.new.held) }
+        ensures still_open { self.new.open.items ≡ self.old.open.items }
+        ensures unsynced { self.new.unsynced.keys ≡ self.old.unsynced.keys }
+        ensures named { self.new.is_named ≡ self.old.is_named }
     {
         if self.hold()? {
             return Ok(());
@@ -133,13 +141,14 @@ where
         let _ = self.open.push(kept);
     }
 
-    /// Closes the blob, if it is open.
+    /// Closes the blob, if it is open, so that no window gives bytes that it had.
     fn close(&mut self, blob: u64)
-        ensures { self.new.failures.count ≡ self.old.failures.count }
+        ensures closed { self.new.open.items ≡ filter (λ one. not (one.blob == blob)) self.old.open.items }
+        ensures unsynced { self.new.unsynced.keys ≡ self.old.unsynced.keys }
+        ensures named { self.new.is_named ≡ self.old.is_named }
+        ensures count { self.new.failures.count ≡ self.old.failures.count }
     {
-        if let Some(place) = find_open(self.open.as_slice(), blob) {
-            self.open.remove(place);
-        }
+        self.open.retain(|one| !one.is_of(blob));
     }
 }
 
@@ -180,20 +189,32 @@ where
         }
     }
 
-    fn put(&mut self, blob: u64, bytes: &[u8]) -> Result<(), Fault> {
-        self.need_folder()?;
+    fn put(&mut self, blob: u64, bytes: &[u8]) -> Result<(), Fault>
+        ensures noted { OnOk result (self.new.unsynced.keys ≡ insert_key nat_cmp self.old.unsynced.keys blob) }
+        ensures refused { OnErr result ((self.new.unsynced.keys ≡ self.old.unsynced.keys)
+            ⊎ (self.new.unsynced.keys ≡ insert_key nat_cmp self.old.unsynced.keys blob)) }
+        ensures closed { self.new.open.items ≡ filter (λ one. not (one.blob == blob)) self.old.open.items }
+        ensures named { self.new.is_named ≡ self.old.is_named }
+        ensures cause { HasFaultCause self.old.failures.count self.new.failures.count result }
+    {
         self.close(blob);
+        self.need_folder()?;
         self.unsynced.insert(blob)?;
         let path = blob_path(self.files.alloc(), self.folder.as_str(), blob)?;
         write_file(&mut self.failures, self.files, path.as_str(), bytes)?;
         Ok(())
     }
 
-    fn remove(&mut self, blob: u64) -> Result<(), Fault> {
+    fn remove(&mut self, blob: u64) -> Result<(), Fault>
+        ensures closed { self.new.open.items ≡ filter (λ one. not (one.blob == blob)) self.old.open.items }
+        ensures unsynced { self.new.unsynced.keys ≡ self.old.unsynced.keys }
+        ensures named { self.new.is_named ≡ self.old.is_named }
+        ensures cause { HasFaultCause self.old.failures.count self.new.failures.count result }
+    {
+        self.close(blob);
         if !self.hold()? {
             return Ok(());
         }
-        self.close(blob);
         let path = blob_path(self.files.alloc(), self.folder.as_str(), blob)?;
         remove_file(&mut self.failures, self.files, path.as_str())
     }
@@ -219,7 +240,13 @@ where
         )
     }
 
-    fn sync(&mut self) -> Result<(), Fault> {
+    fn sync(&mut self) -> Result<(), Fault>
+        ensures emptied { OnOk result (self.new.unsynced.keys ≡ []) }
+        ensures named { OnOk result (self.new.is_named ≡ true) }
+        ensures unsynced { OnErr result (self.new.unsynced.keys ≡ self.old.unsynced.keys) }
+        ensures unnamed { OnErr result (self.new.is_named ≡ self.old.is_named) }
+        ensures cause { HasFaultCause self.old.failures.count self.new.failures.count result }
+    {
         self.need_folder()?;
         let folder = self.folder.as_str();
         sync_blobs(&mut self.failures, self.files, folder, &self.unsynced)?;
