@@ -6,6 +6,7 @@ ghost use Rattle.std.specs.Fs.{IsFile, file_type};
 ghost use Rattle.std.specs.IoError.{error_kind};
 ghost use Rattle.wu_outside.specs.Faults.{HasFaultCause};
 
+use crate::synced_file::SyncedFile;
 use crate::system::Failures;
 use crate::traits::Fault;
 use std::fs::{DirBuilder, Metadata, OpenFile};
@@ -146,20 +147,21 @@ fn refuse_none(count: usize) -> io::Result<()>
 }
 
 /// Gives the file these bytes alone, at once: they are written to another file, which takes its name
-/// once it has survived.
-pub fn replace_file<R: Files>(
+/// once it has survived. What has the name then is a file that has.
+pub fn replace_file<'a, R: Files>(
     failures: &mut Failures,
     files: &R,
-    path: &str,
+    path: &'a str,
     fresh: &str,
     bytes: &[u8],
-) -> Result<(), Fault>
+) -> Result<SyncedFile<'a>, Fault>
+    ensures path { IfOk result (λ synced. synced.path.now ≡ path.now) }
     ensures cause { HasFaultCause failures.old.count failures.new.count result }
 {
     look(failures, files, path)?;
     let file = write_file(failures, files, fresh, bytes)?;
-    failures.note(fresh, file.sync_all())?;
-    failures.note(path, fs::rename(files, fresh, path))
+    let synced = SyncedFile::sync(failures, fresh, &file)?;
+    synced.rename(failures, files, path)
 }
 
 /// Removes the file, where it is there.

@@ -40,7 +40,7 @@ pub struct DirStore<'a, R: Files + AllocGlobal> {
     files: &'a R,
     folder: String,
     held: Option<R::File>,
-    open: Vec<OpenBlob<R::File>>,
+    open_blobs: Vec<OpenBlob<R::File>>,
     unsynced: BTreeSet<u64>,
     is_named: bool,
     failures: Failures,
@@ -60,7 +60,7 @@ where
             files,
             folder: String::from_str(files.alloc(), folder)?,
             held: None,
-            open: Vec::new(files.alloc()),
+            open_blobs: Vec::new(files.alloc()),
             unsynced: BTreeSet::new(files.alloc()),
             is_named: false,
             failures: Failures::new(files.alloc()),
@@ -86,7 +86,7 @@ where
     fn hold(&mut self) -> Result<bool, Fault>
         ensures cause { HasFaultCause self.old.failures.count self.new.failures.count result }
         ensures held { result ≡ Ok true → IsSome self.new.held }
-        ensures still_open { self.new.open.items ≡ self.old.open.items }
+        ensures still_open { self.new.open_blobs.items ≡ self.old.open_blobs.items }
         ensures unsynced { self.new.unsynced.keys ≡ self.old.unsynced.keys }
         ensures named { self.new.is_named ≡ self.old.is_named }
     {
@@ -100,7 +100,7 @@ where
     fn need_folder(&mut self) -> Result<(), Fault>
         ensures cause { HasFaultCause self.old.failures.count self.new.failures.count result }
         ensures held { OnOk result (IsSome self.new.held) }
-        ensures still_open { self.new.open.items ≡ self.old.open.items }
+        ensures still_open { self.new.open_blobs.items ≡ self.old.open_blobs.items }
         ensures unsynced { self.new.unsynced.keys ≡ self.old.unsynced.keys }
         ensures named { self.new.is_named ≡ self.old.is_named }
     {
@@ -121,8 +121,8 @@ where
         ensures cause { HasFaultCause self.old.failures.count self.new.failures.count result }
         ensures blob { IfOk result (λ found. IfSome found (λ one. one.blob ≡ blob)) }
     {
-        if let Some(place) = find_open(self.open.as_slice(), blob) {
-            return Ok(Some(self.open.remove(place)));
+        if let Some(place) = find_open(self.open_blobs.as_slice(), blob) {
+            return Ok(Some(self.open_blobs.remove(place)));
         }
         let path = blob_path(self.files.alloc(), self.folder.as_str(), blob)?;
         match open_file(&mut self.failures, self.files, path.as_str())? {
@@ -135,20 +135,20 @@ where
     fn keep_open(&mut self, kept: OpenBlob<R::File>)
         ensures { self.new.failures.count ≡ self.old.failures.count }
     {
-        if self.open.len() >= OPEN_MAX {
-            self.open.remove(0);
+        if self.open_blobs.len() >= OPEN_MAX {
+            self.open_blobs.remove(0);
         }
-        let _ = self.open.push(kept);
+        let _ = self.open_blobs.push(kept);
     }
 
     /// Closes the blob, if it is open, so that no window gives bytes that it had.
     fn close(&mut self, blob: u64)
-        ensures closed { self.new.open.items ≡ filter (λ one. not (one.blob == blob)) self.old.open.items }
+        ensures closed { self.new.open_blobs.items ≡ filter (λ one. not (one.blob == blob)) self.old.open_blobs.items }
         ensures unsynced { self.new.unsynced.keys ≡ self.old.unsynced.keys }
         ensures named { self.new.is_named ≡ self.old.is_named }
         ensures count { self.new.failures.count ≡ self.old.failures.count }
     {
-        self.open.retain(|one| !one.is_of(blob));
+        self.open_blobs.retain(|one| !one.is_of(blob));
     }
 }
 
@@ -193,7 +193,7 @@ where
         ensures noted { OnOk result (self.new.unsynced.keys ≡ insert_key nat_cmp self.old.unsynced.keys blob) }
         ensures refused { OnErr result ((self.new.unsynced.keys ≡ self.old.unsynced.keys)
             ⊎ (self.new.unsynced.keys ≡ insert_key nat_cmp self.old.unsynced.keys blob)) }
-        ensures closed { self.new.open.items ≡ filter (λ one. not (one.blob == blob)) self.old.open.items }
+        ensures closed { self.new.open_blobs.items ≡ filter (λ one. not (one.blob == blob)) self.old.open_blobs.items }
         ensures named { self.new.is_named ≡ self.old.is_named }
         ensures cause { HasFaultCause self.old.failures.count self.new.failures.count result }
     {
@@ -206,7 +206,7 @@ where
     }
 
     fn remove(&mut self, blob: u64) -> Result<(), Fault>
-        ensures closed { self.new.open.items ≡ filter (λ one. not (one.blob == blob)) self.old.open.items }
+        ensures closed { self.new.open_blobs.items ≡ filter (λ one. not (one.blob == blob)) self.old.open_blobs.items }
         ensures unsynced { self.new.unsynced.keys ≡ self.old.unsynced.keys }
         ensures named { self.new.is_named ≡ self.old.is_named }
         ensures cause { HasFaultCause self.old.failures.count self.new.failures.count result }
@@ -237,7 +237,8 @@ where
             path.as_str(),
             fresh.as_str(),
             bytes,
-        )
+        )?;
+        Ok(())
     }
 
     fn sync(&mut self) -> Result<(), Fault>

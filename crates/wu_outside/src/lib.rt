@@ -16,6 +16,7 @@ mod plain_store;
 mod ranges;
 mod schedule;
 mod standard;
+mod synced_file;
 mod system;
 mod traits;
 mod writing;
