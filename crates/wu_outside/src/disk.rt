@@ -202,13 +202,26 @@ pub fn read_at<F: Read + Seek>(
     buf: &mut [u8],
 ) -> Result<usize, Fault>
     ensures within { IfOk result (λ n. n ≤ length buf.new) }
+    ensures beyond { LAST_PLACE < at → result ≡ Ok 0 }
+    ensures taken { IfOk result (λ n. at ≤ LAST_PLACE → (sought : F)
+        × IfSome (F.stream_position file.old) (λ _. F.stream_position sought ≡ Some at)
+        × Consumes (F.remaining sought) (F.remaining file.new) (take n buf.new)) }
     ensures cause { HasFaultCause failures.old.count failures.new.count result }
 {
     if at > LAST_PLACE {
         return Ok(0);
     }
-    failures.note(path, file.seek(SeekFrom::Start(at)))?;
+    seek_to(failures, path, file, at)?;
     fill(failures, path, file, buf)
+}
+
+/// Goes to a place, from which the next read is.
+fn seek_to<F: Seek>(failures: &mut Failures, path: &str, file: &mut F, at: u64) -> Result<(), Fault>
+    ensures place { OnOk result (IfSome (F.stream_position file.old) (λ _. F.stream_position file.new ≡ Some at)) }
+    ensures cause { HasFaultCause failures.old.count failures.new.count result }
+{
+    failures.note(path, file.seek(SeekFrom::Start(at)))?;
+    Ok(())
 }
 
 /// Reads as far as the file goes and there is room.
