@@ -2,7 +2,7 @@
 //! no file is reached through a symbolic link.
 ghost use Rattle.std.specs.Prelude.{◌≡◌, ◌≢◌, ◌≤◌, ◌<◌, ◌↔◌, length, take, IfOk, IfSome, IsErr, IsErrAnd, IsOk, OnOk, MatchResult};
 ghost use Rattle.std.specs.Io.KnownBytes.{Appends, Consumes, IsAtEnd};
-ghost use Rattle.std.specs.Fs.{IsFile, file_type};
+ghost use Rattle.std.specs.Fs.{IsFile, file_type, metadata_len};
 ghost use Rattle.std.specs.IoError.{error_kind};
 ghost use Rattle.wu_outside.specs.Faults.{HasFaultCause};
 
@@ -56,10 +56,24 @@ pub fn open_file<R: Files>(
 ) -> Result<Option<R::File>, Fault>
     ensures cause { HasFaultCause failures.old.count failures.new.count result }
 {
-    match look(failures, files, path)? {
-        None => Ok(None),
-        Some(_) => failures.note_found(path, fs::open(files, path)),
+    let found = look(failures, files, path)?;
+    open_found(failures, files, path, found)
+}
+
+/// Opens what was found by a look, which is a regular file. None where there was none, or is by now.
+fn open_found<R: Files>(
+    failures: &mut Failures,
+    files: &R,
+    path: &str,
+    found: Option<Metadata>,
+) -> Result<Option<R::File>, Fault>
+    requires { IfSome found (λ metadata. IsFile (file_type metadata)) }
+    ensures cause { HasFaultCause failures.old.count failures.new.count result }
+{
+    if found.is_none() {
+        return Ok(None);
     }
+    failures.note_found(path, fs::open(files, path))
 }
 
 /// Makes the folder, for its owner alone, where it is absent.
@@ -186,11 +200,27 @@ pub fn read_front<R: Files>(
     match open_file(failures, files, path)? {
         None => Ok(None),
         Some(mut file) => {
-            let len = failures.note(path, file.metadata())?.len();
-            read_at(failures, path, &mut file, 0, buf)?;
-            Ok(Some(len as usize))
+            let metadata = failures.note(path, file.metadata())?;
+            let len = read_front_of(failures, path, &mut file, &metadata, buf)?;
+            Ok(Some(len))
         }
     }
+}
+
+/// The length of an open file by its metadata, also where it is longer than the buffer, and its first
+/// bytes.
+fn read_front_of<F: Read + Seek>(
+    failures: &mut Failures,
+    path: &str,
+    file: &mut F,
+    metadata: &Metadata,
+    buf: &mut [u8],
+) -> Result<usize, Fault>
+    ensures len { IfOk result (λ len. len ≡ metadata_len metadata.now) }
+    ensures cause { HasFaultCause failures.old.count failures.new.count result }
+{
+    read_at(failures, path, file, 0, buf)?;
+    Ok(metadata.len() as usize)
 }
 
 /// Reads from a place on, as far as the file goes and there is room.

@@ -44,15 +44,16 @@ where
         return Ok(None);
     };
     let user = failures.note(PROCESS, fs::metadata(files, PROCESS))?.uid();
-    failures.note(path, accept_folder(&metadata, user))?;
+    failures.note(path, accept_folder(&metadata, metadata.uid(), user))?;
     let folder = failures.note(path, fs::open(files, path))?;
     failures.note(path, lock(&folder))?;
     Ok(Some(folder))
 }
 
 /// Only a folder of the user's own will do, to which nobody else may write.
-fn accept_folder(metadata: &Metadata, user: u32) -> io::Result<()>
+fn accept_folder(metadata: &Metadata, owner: u32, user: u32) -> io::Result<()>
     ensures folder { OnOk result (IsDir (file_type metadata.now)) }
+    ensures owned { OnOk result (owner ≡ user) }
     ensures closed { OnOk result (bit_and (metadata_mode metadata.now) 18 ≡ 0) }
 {
     if metadata.is_symlink() {
@@ -61,7 +62,7 @@ fn accept_folder(metadata: &Metadata, user: u32) -> io::Result<()>
     if !metadata.is_dir() {
         return Err(io::Error::other("it is not a folder"));
     }
-    if metadata.uid() != user {
+    if owner != user {
         return Err(io::Error::other("it belongs to another user"));
     }
     if metadata.mode() & OTHERS_WRITE != 0 {

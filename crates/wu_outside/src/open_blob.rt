@@ -72,14 +72,26 @@ impl<F: Read + Seek> OpenBlob<F> {
         let more = if rest.is_empty() {
             0
         } else if goes_on && rest.len() < WINDOW {
-            self.fill(failures, rest_at)?;
-            self.take_held(rest_at, rest)
+            self.read_on(failures, rest_at, rest)?
         } else {
             read_at(failures, self.path.as_str(), &mut self.file, rest_at, rest)?
         };
         let count = held + more;
         self.next = Some(at.saturating_add(count as u64));
         Ok(count)
+    }
+
+    /// Fills the window from a place on, and copies the first bytes that it has then.
+    fn read_on(&mut self, failures: &mut Failures, at: u64, buf: &mut [u8]) -> Result<usize, Fault>
+        ensures cause { HasFaultCause failures.old.count failures.new.count result }
+        ensures within { IfOk result (λ n. n ≤ length buf.new) }
+        ensures filled { OnOk result (self.new.window_at ≡ at) }
+        ensures given { IfOk result (λ n. take n buf.new
+            ≡ take (length buf.new) (take self.new.window_len self.new.window.items)) }
+        ensures blob { self.new.blob ≡ self.old.blob }
+    {
+        self.fill(failures, at)?;
+        Ok(self.take_held(at, buf))
     }
 
     /// Copies what the window holds from a place on.

@@ -1,11 +1,11 @@
 //! What the system answers, handed on: each error counts as a fault, an interrupted call included.
-ghost use Rattle.std.specs.Prelude.{◌≡◌, None, Err, IfErr, IfSome, MatchResult, option_copied, string_bytes};
+ghost use Rattle.std.specs.Prelude.{◌≡◌, None, Some, Err, IfErr, IfSome, MatchResult, option_copied, string_bytes};
 ghost use Rattle.std.specs.IoError.{error_kind};
 ghost use Rattle.wu_outside.specs.Faults.{HandsOn, HandsOnFound, HasCause, HasFaultCause};
 ghost use Rattle.wu_outside.specs.declared.traits.Fault.TheVariants.{Failed as CallFailed};
 
 use crate::traits::{Failed, Fault};
-use std::alloc::Global;
+use std::alloc::{AllocError, Global};
 use std::io::ErrorKind;
 use std::{fmt, io};
 
@@ -81,6 +81,7 @@ impl Failures {
         ensures cause { HasFaultCause self.old.count self.new.count result }
     {
         if let Err(reason) = &answer {
+            let path = String::from_str(self.alloc, path);
             self.keep(path, *reason);
         }
         Ok(count_error(&mut self.count, answer)?)
@@ -109,12 +110,14 @@ impl Failures {
         }
     }
 
-    /// Keeps why a call failed, where there is memory for the path.
-    fn keep(&mut self, path: &str, reason: io::Error)
+    /// Keeps why a call failed, where there was memory for the path.
+    fn keep(&mut self, path: Result<String, AllocError>, reason: io::Error)
         ensures count { self.new.count ≡ self.old.count }
-        ensures kept { IfSome self.new.last (λ last. (string_bytes last.path ≡ path.now) × (last.reason ≡ reason)) }
+        ensures kept { MatchResult path
+            (λ path. self.new.last ≡ Some (record { path = path; reason = reason }))
+            (λ _. self.new.last ≡ None) }
     {
-        self.last = match String::from_str(self.alloc, path) {
+        self.last = match path {
             Ok(path) => Some(Failure { path, reason }),
             Err(_) => None,
         };
