@@ -16,7 +16,7 @@ use std::rt::Files;
 use std::{fs, io};
 
 /// The last place in a file from which one can read.
-const LAST_PLACE: u64 = u64::MAX / 2;
+pub const LAST_PLACE: u64 = u64::MAX / 2;
 
 /// Looks at the file, before it is reached by its name. None where there is none; what is there but is
 /// no regular file, as a symbolic link, is a failed call.

@@ -1,9 +1,10 @@
 //! A blob whose file stays open.
 ghost use Rattle.wu_outside.specs.Faults.{HasFaultCause};
-ghost use Rattle.std.specs.Prelude.{◌≡◌, ◌==◌, ◌≤◌, ◌<◌, ◌+◌, ◌-◌, ◌^◌, length, min, take, drop, vec_len, None, Some, IfOk, OnOk, OnErr};
+ghost use Rattle.std.specs.Io.KnownBytes.{Consumes};
+ghost use Rattle.std.specs.Prelude.{◌≡◌, ◌==◌, ◌≤◌, ◌<◌, ◌+◌, ◌-◌, ◌^◌, ◌⊎◌, length, min, take, drop, vec_len, None, Some, IfOk, IfSome, OnOk, OnErr};
 
 use crate::copies::copy_from;
-use crate::disk::read_at;
+use crate::disk::{LAST_PLACE, read_at};
 use crate::system::Failures;
 use crate::traits::Fault;
 use std::alloc::{AllocError, Global};
@@ -62,6 +63,11 @@ impl<F: Read + Seek> OpenBlob<F> {
     ) -> Result<usize, Fault>
         ensures cause { HasFaultCause failures.old.count failures.new.count result }
         ensures within { IfOk result (λ n. n ≤ length buf.new) }
+        ensures held { IfOk result (λ n. self.old.window_at ≤ at →
+            let held = take (length buf.new) (drop (at - self.old.window_at) (take self.old.window_len self.old.window.items)) in
+            take (length held) buf.new ≡ held) }
+        ensures reaches { IfOk result (λ n. (self.new.window_at ≡ self.old.window_at)
+            ⊎ (min (at + n) (2 ^ 64 - 1) ≤ self.new.window_at + self.new.window_len)) }
         ensures next { IfOk result (λ n. self.new.next ≡ Some (min (at + n) (2 ^ 64 - 1))) }
         ensures blob { self.new.blob ≡ self.old.blob }
     {
@@ -86,6 +92,7 @@ impl<F: Read + Seek> OpenBlob<F> {
         ensures cause { HasFaultCause failures.old.count failures.new.count result }
         ensures within { IfOk result (λ n. n ≤ length buf.new) }
         ensures filled { OnOk result (self.new.window_at ≡ at) }
+        ensures reaches { IfOk result (λ n. n ≤ self.new.window_len) }
         ensures given { IfOk result (λ n. take n buf.new
             ≡ take (length buf.new) (take self.new.window_len self.new.window.items)) }
         ensures blob { self.new.blob ≡ self.old.blob }
@@ -97,6 +104,7 @@ impl<F: Read + Seek> OpenBlob<F> {
     /// Copies what the window holds from a place on.
     fn take_held(&self, at: u64, buf: &mut [u8]) -> usize
         ensures within { result ≤ length buf.new }
+        ensures few { result ≤ self.now.window_len }
         ensures before { at < self.now.window_at → result ≡ 0 }
         ensures held { self.now.window_at ≤ at → take result buf.new
             ≡ take (length buf.new) (drop (at - self.now.window_at) (take self.now.window_len self.now.window.items)) }
@@ -112,6 +120,9 @@ impl<F: Read + Seek> OpenBlob<F> {
     fn fill(&mut self, failures: &mut Failures, at: u64) -> Result<(), Fault>
         ensures cause { HasFaultCause failures.old.count failures.new.count result }
         ensures filled { OnOk result (self.new.window_at ≡ at) }
+        ensures taken { OnOk result (at ≤ LAST_PLACE → (sought : F)
+            × IfSome (F.stream_position self.old.file) (λ _. F.stream_position sought ≡ Some at)
+            × Consumes (F.remaining sought) (F.remaining self.new.file) (take self.new.window_len self.new.window.items)) }
         ensures within { self.new.window_len ≤ vec_len self.new.window }
         ensures failed { OnErr result (self.new.window_len ≡ 0) }
         ensures blob { self.new.blob ≡ self.old.blob }
