@@ -1,7 +1,7 @@
 -- What is asked of several parts, one after another, and why it fails.
 use Rattle.std.proofs.Common.{◌≡◌, ℕ, ◌-◌, ◌<◌, true, false, cond, Bool, List, [], ◌∷◌, ◌++◌, length, filter, Option, None, Some, refl, ap}
 use Rattle.std.proofs.Common.{ap₂, sym, ◌∙◌, subst, arith, append-nil, append_assoc, inl, inr}
-use Rattle.std.specs.Prelude.{IfErr, IfSome, IsErrAnd, Result, Ok, Err, zip}
+use Rattle.std.specs.Prelude.{IfErr, IfSome, IsErrAnd, OnErr, Result, Ok, Err, zip}
 use Rattle.std.specs.List.{AllByRecursion, list_any}
 use Rattle.std.specs.Map.{keys_of}
 use Rattle.wu_base.specs.declared.addresses.PartRec.{PartRec}
@@ -9,6 +9,7 @@ use Rattle.wu_base.specs.declared.addresses.Range.{Range}
 use Rattle.wu_base.specs.declared.troubles.Trouble.{Trouble}
 use Rattle.wu_base.specs.declared.troubles.Trouble.TheVariants.{NoMemory}
 use Rattle.wu_base.proofs.EachLemmas.{each-append, each_left}
+use Rattle.wu_base.proofs.Results.{on_err}
 use Rattle.wu_outside.specs.Content.{Content}
 use Rattle.wu_outside.specs.declared.ranges.ReadRange.{ReadRange}
 use Rattle.wu_layout.specs.Invariants.{SomeOf}
@@ -20,14 +21,14 @@ use Rattle.wu_lists.specs.declared.blocks.Block.{Block}
 use Rattle.wu_lists.specs.Blocks.{blocks_from, blocks_in, blocks_of, entry_of, meets, needed}
 use Rattle.wu_lists.specs.Causes.{IsCause}
 use Rattle.wu_part.specs.Parts.{IsNoPart}
-use Rattle.wu_lists.specs.Keeping.{Asks, Kept, all_asked, all_missing, asked, is_same, missing}
+use Rattle.wu_lists.specs.Keeping.{Asks, AsksFirst, Kept, all_asked, all_missing, asked, is_same, missing}
 use Rattle.wu_parts.specs.Causes.{IsAskCause, IsFetchCause}
 use Rattle.wu_parts.specs.Contents.{Contents}
-use Rattle.wu_parts.specs.Holdings.{AsksParts, all_needed}
+use Rattle.wu_parts.specs.Holdings.{AsksFirstOfParts, AsksParts, all_needed}
 use Rattle.wu_parts.specs.StoredParts.{directories_of, pairs_of, records_of}
 use Rattle.wu_parts.specs.declared.writing.StoredPart.{StoredPart}
 use Rattle.wu_layout.proofs.KeptLemmas.{SomeOf-right}
-use Rattle.wu_lists.proofs.Asking.{all_missing-append, ranges-join, with_ranges}
+use Rattle.wu_lists.proofs.Asking.{all_missing-append, first-all, ranges-join, with_ranges}
 
 -- ---- blocks
 
@@ -220,6 +221,14 @@ module _ (old fields : Contents) (parts slice : List StoredPart) (is : fields �
       asks-seen (pairs_of slice) (zip old.parts old.directories) fields.kept old.kept new term frames holds ranges ranges_now
       (seen-parts old fields parts slice is records directories sliced) (ap (λ (k : Contents). k.kept) is) a
 
+  pub first-told : (new : Kept) → AsksFirst (all_needed (pairs_of slice) term frames) holds fields.kept new
+      → AsksFirst (all_needed (zip old.parts old.directories) term frames) holds old.kept new
+  first-told new f =
+      subst (λ (l : Kept). AsksFirst (all_needed (zip old.parts old.directories) term frames) holds l new)
+      (ap (λ (k : Contents). k.kept) is)
+      (subst (λ (ps : List (PartRec × PartDirectory)). AsksFirst (all_needed ps term frames) holds fields.kept new)
+      (seen-parts old fields parts slice is records directories sliced) f)
+
   pub cause-told : {T : Type 0} (r : Result T Trouble) (trouble : Trouble) (before now : ℕ) (ranges ranges_now : Option (List ReadRange))
       → IsErrAnd r (λ t. t ≡ trouble)
       → IsFetchCause (pairs_of slice) (told_missing (pairs_of slice) fields.kept) holds before now ranges ranges_now trouble
@@ -242,3 +251,10 @@ cause-after r contents term frames holds new before now ranges ranges_now e a ca
     let pairs : List (PartRec × PartDirectory) = zip contents.parts contents.directories in
     answered (IsAskCause contents term frames holds before now ranges ranges_now) r NoMemory e
     (cause-done pairs (all_needed pairs term frames) holds contents.kept new before now ranges ranges_now a calm)
+
+pub kept-after : {T : Type 0} (r : Result T Trouble) (contents : Contents) (term : List ℕ) (frames : List Range) (holds : Option Content)
+    (new : Kept) (ranges ranges_now : Option (List ReadRange)) → AsksParts contents term frames holds new ranges ranges_now
+    → OnErr r (AsksFirstOfParts contents term frames holds new)
+kept-after r contents term frames holds new ranges ranges_now a =
+    on_err r
+    (first-all holds contents.kept new ranges ranges_now (all_needed (zip contents.parts contents.directories) term frames) a)

@@ -10,25 +10,29 @@ use Rattle.wu_base.specs.declared.troubles.Trouble.{Trouble}
 use Rattle.wu_outside.specs.Content.{Content}
 use Rattle.wu_outside.specs.declared.ranges.ReadRange.{ReadRange}
 use Rattle.wu_part.specs.Parts.{IsRecorded, IsNoPart}
+use Rattle.wu_lists.specs.declared.blocks.Block.{Block}
 use Rattle.wu_lists.specs.Blocks.{needed}
 use Rattle.wu_lists.specs.Causes.{IsCause}
 use Rattle.wu_lists.specs.Fetching.{AreGathered, HasTerm}
-use Rattle.wu_lists.specs.Keeping.{Asks, Kept, all_missing}
+use Rattle.wu_lists.specs.Keeping.{Asks, AsksFirst, Kept, all_missing}
 use Rattle.wu_parts.specs.Causes.{IsFetchCause}
 use Rattle.wu_parts.specs.Holdings.{all_needed}
 use Rattle.wu_parts.specs.StoredParts.{AreGatheredFrom, pairs_of}
 use Rattle.wu_parts.specs.declared.writing.StoredPart.{StoredPart}
 use Rattle.wu_parts.proofs.FetchedAddresses.{gathered-first, gathered-none}
 use Rattle.wu_lists.specs.Gaining.{Gains}
-use Rattle.wu_lists.proofs.Asking.{asks-join, asks-none}
+use Rattle.wu_lists.proofs.Asking.{asks-join, asks-none, first-join}
 use Rattle.wu_parts.proofs.Asking.{cause-first, cause-later}
 
--- The blocks that are asked for in the parts that are left lead to those that are asked for in all, and so does a trouble.
+-- The blocks that are asked for in the parts that are left lead to those that are asked for in all, also the first ones alone, and so does
+-- a trouble.
 pub record Leads (parts left : List StoredPart) (term : List ℕ) (frames : List Range) (holds : Option Content) (old now : Kept)
     (ranges ranges_now : Option (List ReadRange)) : Type 0 where
   pub asks : (new : Kept) (ranges_new : Option (List ReadRange))
       → Asks (all_needed (pairs_of left) term frames) holds now new ranges_now ranges_new
       → Asks (all_needed (pairs_of parts) term frames) holds old new ranges ranges_new
+  pub first : (new : Kept) → AsksFirst (all_needed (pairs_of left) term frames) holds now new
+      → AsksFirst (all_needed (pairs_of parts) term frames) holds old new
   pub cause : (before after : ℕ) (ranges_new : Option (List ReadRange)) (trouble : Trouble)
       → IsFetchCause (pairs_of left) (all_missing now.cap (keys_of now.entries) (all_needed (pairs_of left) term frames)) holds before after
       ranges_now ranges_new trouble
@@ -48,6 +52,7 @@ module _ (parts : List StoredPart) (term : List ℕ) (frames : List Range) (hold
   pub leads-none : (ranges : Option (List ReadRange)) → Leads parts parts term frames holds old old ranges ranges
   leads-none ranges = record {
     asks = λ new ranges_new a. a;
+    first = λ new f. f;
     cause = λ before after ranges_new trouble c. c;
   }
 
@@ -68,6 +73,13 @@ module _ (parts left : List StoredPart) (part : StoredPart) (term : List ℕ) (f
         l.cause before after ranges_new trouble
         (cause-first (pairs_of left) (part.recorded, part.directory) term frames now holds before after ranges_now ranges_new trouble c)
 
+    pub leads-stops : (new : Kept) → AsksFirst (needed part.recorded.blob part.directory term frames) holds now new
+        → AsksFirst (all_needed (pairs_of parts) term frames) holds old new
+    leads-stops new f =
+        l.first new
+        (first-join holds now now new ranges_now ranges_now [] (needed part.recorded.blob part.directory term frames)
+        (all_needed (pairs_of left) term frames) (asks-none holds now ranges_now) f)
+
     pub leads-step : (next : Kept) (ranges_next : Option (List ReadRange))
         → Asks (needed part.recorded.blob part.directory term frames) holds now next ranges_now ranges_next
         → Leads parts left term frames holds old next ranges ranges_next
@@ -76,6 +88,12 @@ module _ (parts left : List StoredPart) (part : StoredPart) (term : List ℕ) (f
           l.asks new ranges_new
           (asks-join holds now next new ranges_now ranges_next ranges_new (needed part.recorded.blob part.directory term frames)
           (all_needed (pairs_of left) term frames) a b);
+      first = λ new f.
+          let others : List Block = all_needed (pairs_of left) term frames in
+          l.first new
+          (subst (λ (bs : List Block). AsksFirst (needed part.recorded.blob part.directory term frames ++ bs) holds now new)
+          (append-nil others)
+          (first-join holds now next new ranges_now ranges_next (needed part.recorded.blob part.directory term frames) others [] a f));
       cause = λ before after ranges_new trouble c.
           l.cause before after ranges_new trouble
           (cause-later (pairs_of left) (part.recorded, part.directory) term frames now holds next before after ranges_now ranges_next
@@ -140,6 +158,12 @@ module _ (parts : List StoredPart) (place : ℕ) (part : StoredPart) (term : Lis
         (all_missing now.cap (keys_of now.entries) (needed part.recorded.blob part.directory term frames)) part.recorded.blob
         (IfSome h (λ content. IsNoPart part.directory (content.blobs part.recorded.blob))) before_now after ranges_now ranges_new trouble)
         same c))
+
+    pub turn-stops : (new : Kept) → AsksFirst (needed part.recorded.blob part.directory term frames) holds_now now new
+        → AsksFirst (all_needed (pairs_of parts) term frames) holds old new
+    turn-stops new f =
+        leads-stops parts (drop (place + 1) parts) part term frames holds old now ranges ranges_now split new
+        (subst (λ (h : Option Content). AsksFirst (needed part.recorded.blob part.directory term frames) h now new) same f)
 
     pub turn-step : (next : Kept) (ranges_next : Option (List ReadRange))
         → Asks (needed part.recorded.blob part.directory term frames) holds_now now next ranges_now ranges_next

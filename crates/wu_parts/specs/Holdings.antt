@@ -11,7 +11,7 @@ use Rattle.wu_part.specs.Parts.{IsRecorded, SpellsPart}
 use Rattle.wu_lists.specs.declared.blocks.Block.{Block}
 use Rattle.wu_lists.specs.Blocks.{needed}
 use Rattle.wu_lists.specs.Fetching.{HasTerm}
-use Rattle.wu_lists.specs.Keeping.{AreHeld, Asks, Kept}
+use Rattle.wu_lists.specs.Keeping.{AreHeld, Asks, AsksFirst, Kept}
 use Rattle.wu_parts.specs.Contents.{Contents}
 
 -- Record and directory are the part's, and the content has the part's postings, term by term, under its blob.
@@ -53,3 +53,8 @@ all_needed parts term frames = flat_map (λ part. needed part.0.blob part.1 term
 abbrev pub AsksParts : Contents → List ℕ → List Range → Option Content → Kept → Option (List ReadRange) → Option (List ReadRange) → Type 0
 AsksParts contents term frames holds kept_now ranges ranges_now =
     Asks (all_needed (zip contents.parts contents.directories) term frames) holds contents.kept kept_now ranges ranges_now
+
+-- after an error: the first of these were asked for in turn, and none of the later ones
+abbrev pub AsksFirstOfParts : Contents → List ℕ → List Range → Option Content → Kept → Type 0
+AsksFirstOfParts contents term frames holds kept_now =
+    AsksFirst (all_needed (zip contents.parts contents.directories) term frames) holds contents.kept kept_now

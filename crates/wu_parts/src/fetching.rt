@@ -1,5 +1,5 @@
 //! The addresses of a term, in the parts and in memory, and their number.
-ghost use Rattle.std.specs.Prelude.{◌≡◌, ◌+◌, ◌≤◌, ◌++◌, ℕ, List, true, All, filter, zip, IfOk, IfErr, IfSome, OnOk};
+ghost use Rattle.std.specs.Prelude.{◌≡◌, ◌+◌, ◌≤◌, ◌++◌, ℕ, List, true, All, filter, zip, IfOk, IfErr, IfSome, OnErr, OnOk};
 ghost use Rattle.std.specs.List.{AllByRecursion, concat};
 ghost use Rattle.std.specs.List.Sorted.{IsStrictlyIncreasing};
 ghost use Rattle.wu_layout.specs.Layouts.{Part, stored_in as postings_in};
@@ -9,7 +9,7 @@ ghost use Rattle.wu_parts.specs.Memory.{held};
 ghost use Rattle.wu_lists.specs.Gaining.{Gains};
 ghost use Rattle.wu_lists.specs.Tallying.{tally_of};
 ghost use Rattle.wu_parts.specs.Causes.{IsAskCause};
-ghost use Rattle.wu_parts.specs.Holdings.{AreKept, AsksParts, HoldParts, HoldTerm};
+ghost use Rattle.wu_parts.specs.Holdings.{AreKept, AsksFirstOfParts, AsksParts, HoldParts, HoldTerm};
 ghost use Rattle.wu_parts.specs.StoredParts.{AreGatheredIn};
 
 use crate::gathered::Gathered;
@@ -39,7 +39,8 @@ impl Parts {
     ///
     /// Errors are out of memory; a fault of the store, only where it had one in this call; and a damaged part, of
     /// which a block was read: its blob isn't a part with the directory that is kept of it. It is absent, or ends before
-    /// the block, or the block isn't one as the directory tells.
+    /// the block, or the block isn't one as the directory tells. After an error what was kept is kept, but for what was
+    /// given up for the first of the blocks.
     pub fn fetch<D: Store>(
         &mut self,
         store: &mut D,
@@ -62,6 +63,7 @@ impl Parts {
 
         ensures blocks { OnOk result (AsksParts self.old term.now frames.now (D.holds store.old) self.new.kept
             (D.reads store.old) (D.reads store.new)) }
+        ensures kept { OnErr result (AsksFirstOfParts self.old term.now frames.now (D.holds store.old) self.new.kept) }
         ensures others { self.new ≡ record self.old { kept = self.new.kept } }
 
         ensures holds { D.holds store.new ≡ D.holds store.old }
@@ -99,6 +101,7 @@ impl Parts {
 
         ensures blocks { OnOk result (AsksParts self.old term.now frames.now (D.holds store.old) self.new.kept
             (D.reads store.old) (D.reads store.new)) }
+        ensures kept { OnErr result (AsksFirstOfParts self.old term.now frames.now (D.holds store.old) self.new.kept) }
         ensures others { self.new ≡ record self.old { kept = self.new.kept } }
 
         ensures holds { D.holds store.new ≡ D.holds store.old }
@@ -138,6 +141,7 @@ impl Parts {
 
         ensures blocks { OnOk result (AsksParts self.old term.now frames.now (D.holds store.old) self.new.kept
             (D.reads store.old) (D.reads store.new)) }
+        ensures kept { OnErr result (AsksFirstOfParts self.old term.now frames.now (D.holds store.old) self.new.kept) }
         ensures others { self.new ≡ record self.old { kept = self.new.kept } }
 
         ensures holds { D.holds store.new ≡ D.holds store.old }
@@ -166,6 +170,7 @@ impl Parts {
         requires bounded { All (λ frame. frame.start + frame.len ≤ ADDRESSES_MAX) frames.now }
         ensures blocks { OnOk result (AsksParts self.old term.now frames.now (D.holds store.old) self.new.kept
             (D.reads store.old) (D.reads store.new)) }
+        ensures kept { OnErr result (AsksFirstOfParts self.old term.now frames.now (D.holds store.old) self.new.kept) }
         ensures others { self.new ≡ record self.old { kept = self.new.kept } }
 
         ensures holds { D.holds store.new ≡ D.holds store.old }
@@ -193,6 +198,7 @@ impl Parts {
             (AreGatheredIn self.old term.now frames.now (D.holds store.old)) found.old found.new) }
         ensures blocks { OnOk result (AsksParts self.old term.now frames.now (D.holds store.old) self.new.kept
             (D.reads store.old) (D.reads store.new)) }
+        ensures kept { OnErr result (AsksFirstOfParts self.old term.now frames.now (D.holds store.old) self.new.kept) }
         ensures others { self.new ≡ record self.old { kept = self.new.kept } }
 
         ensures holds { D.holds store.new ≡ D.holds store.old }

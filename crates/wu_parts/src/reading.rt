@@ -1,10 +1,10 @@
 //! A walk over the parts for a term.
-ghost use Rattle.std.specs.Prelude.{◌≡◌, ◌+◌, ◌≤◌, true, All, IfErr, OnOk};
+ghost use Rattle.std.specs.Prelude.{◌≡◌, ◌+◌, ◌≤◌, true, All, IfErr, OnErr, OnOk};
 ghost use Rattle.std.specs.List.{AllByRecursion};
 ghost use Rattle.wu_base.specs.Ranges.{AreApart};
 ghost use Rattle.wu_part.specs.Parts.{IsRecorded};
 ghost use Rattle.wu_lists.specs.Gaining.{Gains};
-ghost use Rattle.wu_lists.specs.Keeping.{Asks};
+ghost use Rattle.wu_lists.specs.Keeping.{Asks, AsksFirst};
 ghost use Rattle.wu_parts.specs.Causes.{IsPartsCause};
 ghost use Rattle.wu_parts.specs.Holdings.{all_needed};
 ghost use Rattle.wu_parts.specs.StoredParts.{AreGatheredFrom, pairs_of};
@@ -31,6 +31,7 @@ pub(crate) fn walk_parts<D: Store, S: AddressSink>(
         (AreGatheredFrom parts.now term.now frames.now (D.holds store.old) lists.old) found.old found.new) }
     ensures blocks { OnOk result (Asks (all_needed (pairs_of parts.now) term.now frames.now) (D.holds store.old) lists.old lists.new
         (D.reads store.old) (D.reads store.new)) }
+    ensures kept { OnErr result (AsksFirst (all_needed (pairs_of parts.now) term.now frames.now) (D.holds store.old) lists.old lists.new) }
     ensures holds { D.holds store.new ≡ D.holds store.old }
     ensures moments { D.moments store.new ≡ D.moments store.old }
     ensures calm { OnOk result (D.faults store.new ≡ D.faults store.old) }

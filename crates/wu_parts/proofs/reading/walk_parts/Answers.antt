@@ -1,7 +1,8 @@
 use Rattle.std.proofs.Common.{◌<◌, length, refl, ◌∙◌, arith}
 use Rattle.std.proofs.lemmas.List.{drop_all}
+use Rattle.wu_base.proofs.Results.{on_err}
 use Rattle.wu_parts.proofs.Asking.{answered}
-use Rattle.wu_parts.proofs.PartTurns.{gains_to-end, gains_to-none, leads-end, leads-none, turn-fails, turn-gains, turn-step}
+use Rattle.wu_parts.proofs.PartTurns.{gains_to-end, gains_to-none, leads-end, leads-none, turn-fails, turn-gains, turn-step, turn-stops}
 use Rattle.wu_parts.proofs.reading.walk_parts.Goals as goal
 
 pub loop-part-init : goal.loop-part-init
@@ -26,6 +27,15 @@ returns-in_err-walk-clause-cause g c =
     c.loop-part.invariant.holds c.loop-part.invariant.leads (g.D.Store.faults c.args.store.now) (g.D.Store.faults c.loop-part.store)
     (g.D.Store.faults c.walk.new.store) (g.D.Store.reads c.walk.new.store)
     c.in_err-walk.field-0.0 c.loop-part.invariant.calm c.in_err-walk.ensures.cause)
+
+pub returns-in_err-walk-clause-kept : goal.returns-in_err-walk-clause-kept
+returns-in_err-walk-clause-kept g c =
+    let within : c.loop-part.part-index < length c.args.parts.now = omega arith in
+    on_err c.from_residual.result
+    (turn-stops c.args.parts.now c.loop-part.part-index c.part-item.result c.args.term.now c.args.frames.now
+    (g.D.Store.holds c.args.store.now) (g.D.Store.holds c.loop-part.store) c.args.lists.now c.loop-part.lists
+    (g.D.Store.reads c.args.store.now) (g.D.Store.reads c.loop-part.store) within c.part-item.is
+    c.loop-part.invariant.holds c.loop-part.invariant.leads c.walk.new.self c.in_err-walk.ensures.kept)
 
 pub loop-part-preserved : goal.loop-part-preserved
 loop-part-preserved g c =

@@ -5,7 +5,7 @@ use Rattle.wu_lists.specs.Ascending.{AscendBetween}
 use Rattle.wu_lists.proofs.Ascending.{ascend-higher}
 use Rattle.wu_parts.specs.Contents.{Contents}
 use Rattle.wu_parts.specs.Memory.{Memory, held}
-use Rattle.wu_parts.proofs.Asking.{cause-after}
+use Rattle.wu_parts.proofs.Asking.{cause-after, kept-after}
 use Rattle.wu_parts.proofs.FetchedAddresses.{ascend-both, lists-both, live_twice, told-both}
 use Rattle.wu_parts.proofs.parts.Parts.gather.Goals as goal
 
@@ -15,6 +15,12 @@ returns-in_err-memory-clause-cause g c =
     (g.D.Store.holds c.args.store.now) c.walk.new.self.kept (g.D.Store.faults c.args.store.now) (g.D.Store.faults c.walk.new.store)
     (g.D.Store.reads c.args.store.now) (g.D.Store.reads c.walk.new.store) c.from_residual-in_err-memory.ensures.1
     c.in_ok-walk.ensures.blocks c.in_ok-walk.ensures.calm
+
+pub returns-in_err-memory-clause-kept : goal.returns-in_err-memory-clause-kept
+returns-in_err-memory-clause-kept g c =
+    kept-after c.from_residual-in_err-memory.result c.args.self.now c.args.term.now c.args.frames.now
+    (g.D.Store.holds c.args.store.now) c.walk.new.self.kept (g.D.Store.reads c.args.store.now) (g.D.Store.reads c.walk.new.store)
+    c.in_ok-walk.ensures.blocks
 
 pub invariant_of-result : goal.invariant_of-result
 invariant_of-result g c =

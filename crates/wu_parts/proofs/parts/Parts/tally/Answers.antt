@@ -5,7 +5,7 @@ use Rattle.wu_lists.specs.Tallying.{tally_of}
 use Rattle.wu_lists.proofs.Ascending.{frames_in_order}
 use Rattle.wu_parts.specs.Contents.{Contents}
 use Rattle.wu_parts.specs.Memory.{Memory, held}
-use Rattle.wu_parts.proofs.Asking.{cause-after}
+use Rattle.wu_parts.proofs.Asking.{cause-after, kept-after}
 use Rattle.wu_parts.proofs.Counting.{all_counted, some_counted}
 use Rattle.wu_parts.proofs.FetchedAddresses.{ascend-live, lists-both, told-both}
 use Rattle.wu_parts.proofs.parts.Parts.tally.Goals as goal
@@ -16,6 +16,12 @@ returns-in_err-tally_into-clause-cause g c =
     (g.D.Store.holds c.args.store.now) c.walk.new.self.kept (g.D.Store.faults c.args.store.now) (g.D.Store.faults c.walk.new.store)
     (g.D.Store.reads c.args.store.now) (g.D.Store.reads c.walk.new.store) c.from_residual-in_err-tally_into.ensures.1
     c.in_ok-walk.ensures.blocks c.in_ok-walk.ensures.calm
+
+pub returns-in_err-tally_into-clause-kept : goal.returns-in_err-tally_into-clause-kept
+returns-in_err-tally_into-clause-kept g c =
+    kept-after c.from_residual-in_err-tally_into.result c.args.self.now c.args.term.now c.args.frames.now
+    (g.D.Store.holds c.args.store.now) c.walk.new.self.kept (g.D.Store.reads c.args.store.now) (g.D.Store.reads c.walk.new.store)
+    c.in_ok-walk.ensures.blocks
 
 pub returns-clause-lists : goal.returns-clause-lists
 returns-clause-lists g c =
