@@ -1,5 +1,5 @@
 -- Live ranges that leave no gap: each address among them is live.
-use Rattle.std.proofs.Common.{◌≡◌, ℕ, zero, suc, ◌+◌, ◌<◌, ◌≤◌, ◌||◌, true, false, List, [], ◌∷◌, length, get_or, max, filter, nat_le, refl}
+use Rattle.std.proofs.Common.{◌≡◌, ℕ, zero, suc, ◌+◌, ◌<◌, ◌≤◌, ◌||◌, true, false, List, [], ◌∷◌, length, drop, get_or, max, filter, nat_le, refl}
 use Rattle.std.proofs.Common.{ap, sym, subst, ◌∙◌, arith, ⊎_elim}
 use Rattle.std.specs.List.{AllByRecursion}
 use Rattle.std.proofs.lemmas.Bool.{and_parts, cases_lt, le-leb, leb-true, lt-ltb}
@@ -61,6 +61,41 @@ live_from low high (r ∷ rs) address o l =
       | false ↦ λ e t.
           let later : r.start + r.len ≤ address = live_from (r.start + r.len) high rs address o.1 t in omega (arith, o.0)
     ] refl l
+
+-- from the address on, those that are live lie in the ranges that are left
+abbrev pub AreLeft : ℕ → List Range → List Range → Type 0
+AreLeft reached left ranges = (address : ℕ) → reached ≤ address → is_live ranges address ≡ is_live left address
+
+order_from : (low high : ℕ) (ranges : List Range) (place : ℕ) (d : Range) → AreInOrder low high ranges → place < length ranges
+    → AreInOrder (get_or ranges place d).start high (drop place ranges)
+order_from low high [] place d o l = absurd (omega arith)
+order_from low high (r ∷ rs) zero d o l = (omega arith, o.1)
+order_from low high (r ∷ rs) (suc place) d o l = order_from (r.start + r.len) high rs place d o.1 (omega arith)
+
+-- where the next range starts later, the address that was reached isn't live: all up to an end are only where that is no further
+pub covered-at : (low high : ℕ) (ranges : List Range) (place : ℕ) (d : Range) (start end reached : ℕ) → AreInOrder low high ranges
+    → place < length ranges → AreLeft reached (drop place ranges) ranges → start ≤ reached → reached < (get_or ranges place d).start
+    → AreLive start end ranges → end ≤ reached
+covered-at low high ranges place d start end reached o l a from gap all =
+    ⊎_elim
+    (λ (below : reached < end).
+    let live : is_live (drop place ranges) reached ≡ true = sym (a reached (omega arith)) ∙ all reached from below in
+    let above : (get_or ranges place d).start ≤ reached =
+    live_from (get_or ranges place d).start high (drop place ranges) reached (order_from low high ranges place d o l) live in
+    absurd (omega arith))
+    (λ (by : end ≤ reached). by)
+    (cases_lt reached end)
+
+-- where no range is left, the address that was reached isn't live either
+pub covered-end : (ranges left : List Range) (start end reached : ℕ) → left ≡ [] → AreLeft reached left ranges → start ≤ reached
+    → AreLive start end ranges → end ≤ reached
+covered-end ranges [] start end reached e a from all =
+    ⊎_elim
+    (λ (below : reached < end).
+    let live : false ≡ true = sym (a reached (omega arith)) ∙ all reached from below in absurd cc)
+    (λ (by : end ≤ reached). by)
+    (cases_lt reached end)
+covered-end ranges (x ∷ left) start end reached e a from all = absurd cc
 
 -- what is so of each address from start on is so of those of a chain
 pub walked_all : (P : ℕ → Type 0) (start : ℕ) (links : List ℕ) (entries : List Numbered) (place : ℕ) (d : Numbered) (addresses : List ℕ)

@@ -10,7 +10,6 @@ use Rattle.std.proofs.lemmas.List.Concat.{flat_map-append}
 use Rattle.std.proofs.lemmas.List.Elements.{filter-append}
 use Rattle.std.proofs.lemmas.List.{map-append}
 use Rattle.wu_base.specs.SortedOnce.{sorted_once}
-use Rattle.wu_part.specs.Directories.{PartDirectory}
 use Rattle.wu_terms.specs.Collections.{Collection, with_terms}
 use Rattle.wu_terms.specs.Terms.{is_candidate}
 use Rattle.wu_terms.proofs.Collected.{once_with}

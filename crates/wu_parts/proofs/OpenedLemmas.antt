@@ -1,7 +1,7 @@
 -- What one part's blob is found to be, and what several opened parts make together.
 use Rattle.std.proofs.Common.{◌≡◌, ℕ, ◌+◌, ◌<◌, List, [], ◌∷◌, ◌++◌, length, take, drop, get_or, Option, None, Some, refl, ap, sym, ◌∙◌}
 use Rattle.std.proofs.Common.{subst, arith, append-nil, append_assoc, take-append-drop, inl, inr}
-use Rattle.std.specs.Prelude.{Bool, true, false, Result, Ok, Err, IfNone, IfSome, MatchBool, OnOk}
+use Rattle.std.specs.Prelude.{Result, Ok, Err, IfNone, IfSome, OnOk}
 use Rattle.std.specs.List.{AllByRecursion}
 use Rattle.std.proofs.lemmas.List.{drop_more, take_more}
 use Rattle.wu_base.specs.declared.addresses.PartRec.{PartRec}
@@ -21,9 +21,9 @@ use Rattle.wu_part.specs.Headers.{SpellsHeader}
 use Rattle.wu_part.specs.Parts.{IsRecorded}
 use Rattle.wu_part.proofs.LawLemmas.{one_directory}
 use Rattle.wu_job.specs.Steps.{adds}
-use Rattle.wu_parts.specs.Loading.{AreOpened, HasDirectory, HasHeader, HasNoDirectory, IsFirstBroken, IsFrontOf, IsLoadCause, IsOpened}
-use Rattle.wu_parts.specs.Loading.{ReadsFronts, WasHeaderRead, directory_range, header_range}
-use Rattle.wu_parts.specs.OpenedParts.{ArePartsOpened, CannotBeOpened, HasBytesAt, HasSize, IsDirectoryIn, IsDirectoryRead, IsHeaderOf}
+use Rattle.wu_parts.specs.Loading.{AreOpened, HasDirectory, HasNoDirectory, IsFirstBroken, IsFrontOf, IsLoadCause, IsOpened}
+use Rattle.wu_parts.specs.Loading.{ReadsFronts, WasHeaderRead, header_range}
+use Rattle.wu_parts.specs.OpenedParts.{ArePartsOpened, CannotBeOpened, HasBytesAt, HasSize, IsDirectoryIn, IsDirectoryRead}
 use Rattle.wu_parts.specs.OpenedParts.{IsPartOpened, TellsLength, front_ranges}
 use Rattle.wu_parts.specs.StoredParts.{directories_of}
 use Rattle.wu_parts.specs.declared.writing.StoredPart.{StoredPart}
@@ -73,12 +73,6 @@ no-directory-untold recorded (Some bytes) n directory own untold = λ other its 
     untold (subst (IsRecorded recorded) (one_directory other directory bytes its own.0) told)
 
 -- ---- where the store tells what it holds
-
-pub filled_is : (filled : Bool) (P Q : Content → Type 0) (holds : Option Content) → filled ≡ true
-    → IfSome holds (λ content. MatchBool filled (P content) (Q content)) → IfSome holds P
-filled_is true P Q None e h = tt
-filled_is true P Q (Some content) e h = h
-filled_is false P Q holds e h = absurd (cc)
 
 module _ (holds : Option Content) (recorded : PartRec) (n : ℕ) (code : List ℕ) (long : length code ≡ n)
     (header : IfSome holds (λ content. TellsLength n (content.blobs recorded.blob)))
@@ -216,29 +210,6 @@ module _ (holds : Option Content) where
       → after ≡ adds (header_range recorded.blob ∷ asked_size recorded.blob ∷ []) before → ReadsFronts holds (recorded ∷ []) before after
   fronts-sized recorded before after e =
       (header_range recorded.blob ∷ asked_size recorded.blob ∷ [], (inl (inl refl), (inl (inr (inl refl)), tt)), e)
-
-  told_of : (n : ℕ) (o : Option (List ℕ)) → TellsLength n o → IfSome o (HasHeader n)
-  told_of n None t = tt
-  told_of n (Some bytes) t = t
-
-  -- the directory was read
-  pub fronts-directory : (recorded : PartRec) (n : ℕ) (before after : Option (List ReadRange)) → IsHeaderOf holds recorded n
-      → after ≡ adds (directory_range recorded.blob n ∷ []) before → ReadsFronts holds (recorded ∷ []) before after
-  fronts-directory recorded n before after header e =
-      fronts-one recorded (directory_range recorded.blob n) before after
-      (inr (inr (
-        refl,
-        header.room,
-        IfSome-map (λ content. TellsLength n (content.blobs recorded.blob))
-            (λ content. IfSome (content.blobs recorded.blob) (HasHeader n)) holds (λ content t. told_of n (content.blobs recorded.blob) t) header.told,
-      )))
-      e
-
-  pub fronts-filled : (recorded : PartRec) (n count : ℕ) (before after : Option (List ReadRange)) → count ≡ n → IsHeaderOf holds recorded n
-      → after ≡ adds (directory_range recorded.blob count ∷ []) before → ReadsFronts holds (recorded ∷ []) before after
-  fronts-filled recorded n count before after long header e =
-      fronts-directory recorded n before after header
-      (e ∙ ap (λ (n : ℕ). adds (directory_range recorded.blob n ∷ []) before) long)
 
   -- of one of the records
   pub fronts-among : (before : List PartRec) (recorded : PartRec) (later : List PartRec) (first next : Option (List ReadRange))

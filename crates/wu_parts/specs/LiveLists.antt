@@ -1,5 +1,5 @@
 -- The lists of the live postings in memory, and what makes lists a part.
-use Rattle.std.specs.Prelude.{ℕ, List, Bool, nat_lt, length, map, filter}
+use Rattle.std.specs.Prelude.{ℕ, List, [], ◌∷◌, Bool, nat_lt, length, map, filter}
 use Rattle.std.specs.List.{IsDistinct, flat_map}
 use Rattle.std.specs.List.Sorted.{IsStrictlySortedBy}
 use Rattle.std.specs.Prelude.{eqb}
@@ -9,6 +9,11 @@ use Rattle.wu_base.specs.declared.addresses.Range.{Range}
 use Rattle.wu_base.specs.declared.addresses.TermList.{TermList}
 use Rattle.wu_layout.specs.Postings.{is_live}
 use Rattle.wu_parts.specs.Memory.{Lists}
+
+-- where the first frame starts, or 0
+abbrev pub start_of : List Range → ℕ
+start_of [] = 0
+start_of (frame ∷ frames) = frame.start
 
 -- a term at those of its addresses that are live
 abbrev pub live_list : List Range → List ℕ × List ℕ → TermList

@@ -1,5 +1,5 @@
 -- What is found of a part's blob, read after read, as the part is opened.
-use Rattle.std.specs.Prelude.{◌≡◌, ⊤, ℕ, ◌+◌, ◌<◌, ◌≤◌, List, [], ◌∷◌, length, take, drop, Option, None, Some, IfSome}
+use Rattle.std.specs.Prelude.{◌≡◌, ◌⊎◌, ⊤, ℕ, ◌+◌, ◌<◌, ◌≤◌, List, [], ◌∷◌, length, take, drop, Option, None, Some, IfSome}
 use Rattle.std.specs.List.{AllByRecursion}
 use Rattle.wu_base.specs.declared.addresses.PartRec.{PartRec}
 use Rattle.wu_outside.specs.Content.{Content}
@@ -44,6 +44,14 @@ CannotBeOpened holds recorded = IfSome holds (λ content. HasNoDirectory recorde
 pub record IsHeaderOf (holds : Option Content) (recorded : PartRec) (directory_length : ℕ) : Type 0 where
   pub room : HEADER_LEN + directory_length ≤ recorded.size
   pub told : IfSome holds (λ content. TellsLength directory_length (content.blobs recorded.blob))
+
+-- Memory ran out: before anything was read, or once a header was found, and then before the size was told or where it is as recorded.
+abbrev pub IsMemoryCause : Option Content → PartRec → Option (List ReadRange) → Option (List ReadRange) → Type 0
+IsMemoryCause holds recorded before after =
+    (after ≡ before)
+    ⊎ ((directory_length : ℕ) × IsHeaderOf holds recorded directory_length
+    × ((after ≡ adds (header_range recorded.blob ∷ []) before)
+    ⊎ IfSome holds (λ content. HasSize recorded.size (content.blobs recorded.blob))))
 
 -- ---- the directory
 

@@ -1,5 +1,5 @@
 //! What a flush makes of memory: the lists of its live postings, by the bytes of their terms, each written as it is cut.
-ghost use Rattle.std.specs.Prelude.{◌≡◌, ◌+◌, ◌-◌, ◌^◌, ◌≤◌, ◌++◌, ◌∷◌, ◌<◌, ℕ, [], true, IfOk, IsOk, IsPermutation, IsTrue, OnOk, filter, get_or, length, map, nat_eq};
+ghost use Rattle.std.specs.Prelude.{◌≡◌, ◌↔◌, ◌+◌, ◌-◌, ◌^◌, ◌≤◌, ◌++◌, ◌∷◌, ◌<◌, ℕ, [], true, IfOk, IsOk, IsPermutation, IsTrue, OnOk, filter, get_or, length, map, nat_eq};
 ghost use Rattle.std.specs.List.{AllByRecursion, IsDistinct};
 ghost use Rattle.std.specs.List.Sorted.{IsStrictlySortedBy};
 ghost use Rattle.std.specs.Cmp.Lexicographic.{pointwise, slice_cmp};
@@ -112,12 +112,12 @@ pub(crate) fn cut_to_live(
 /// Whether each address from `start` up to `end` lies in one of the ranges, where these are in order.
 fn are_covered(start: u64, end: u64, ranges: &[Range]) -> bool
     requires { AreInOrder 0 (2 ^ 64 - 1) ranges.now }
-    ensures { IsTrue result → (address : ℕ) → start ≤ address → address < end → is_live ranges.now address ≡ true }
+    ensures { IsTrue result ↔ ((address : ℕ) → start ≤ address → address < end → is_live ranges.now address ≡ true) }
 {
     let mut reached = start;
     for range in ranges {
         if reached < range.start {
-            return false;
+            return end <= reached;
         }
         reached = reached.max(range.start + range.len);
     }

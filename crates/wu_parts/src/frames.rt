@@ -2,6 +2,7 @@
 ghost use Rattle.std.specs.Prelude.{◌≡◌, ◌-◌, ◌^◌, filter, IfOk};
 ghost use Rattle.wu_layout.specs.Postings.{is_live};
 ghost use Rattle.wu_lists.specs.Ascending.{AscendBetween, AreInOrder};
+ghost use Rattle.wu_parts.specs.LiveLists.{start_of};
 
 use std::alloc::Global;
 use wu_base::{NoMemory, Range, Sequence};
@@ -22,10 +23,11 @@ pub(crate) fn within_frames(
     Ok(Sequence::from(found))
 }
 
-/// An address such that none below it lies in a frame: where the first one starts.
+/// Where the first frame starts, or 0 where there is none: no address below it lies in a frame.
 pub(crate) fn first_start(frames: &[Range]) -> u64
     requires { AreInOrder 0 (2 ^ 64 - 1) frames.now }
-    ensures { AreInOrder result (2 ^ 64 - 1) frames.now }
+    ensures start { result ≡ start_of frames.now }
+    ensures order { AreInOrder result (2 ^ 64 - 1) frames.now }
 {
     match frames {
         [first, ..] => first.start,

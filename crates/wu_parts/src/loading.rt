@@ -1,5 +1,5 @@
 //! Opening of the parts that a store has.
-ghost use Rattle.std.specs.Prelude.{◌≡◌, ◌+◌, ◌<◌, ◌≤◌, ◌^◌, [], ◌∷◌, Some, IfErr, IfNone, IfOk, IfSome, MatchBool, OnOk, length};
+ghost use Rattle.std.specs.Prelude.{◌≡◌, ◌+◌, ◌<◌, ◌≤◌, ◌^◌, [], ◌∷◌, Some, IfErr, IfNone, IfOk, IfSome, MatchBool, MatchOption, OnErr, OnOk, length};
 ghost use Rattle.wu_base.specs.declared.troubles.Trouble.TheVariants.{Damaged as DamagedBlob};
 ghost use Rattle.wu_outside.specs.Faults.{HasFaultCause};
 ghost use Rattle.wu_outside.specs.Ranges.{AddsRange, asked_size};
@@ -8,7 +8,7 @@ ghost use Rattle.wu_part.specs.declared.headers.TheConstants.{HEADER_LEN as head
 ghost use Rattle.wu_job.specs.Steps.{adds};
 ghost use Rattle.wu_parts.specs.Causes.{IsStoreCause};
 ghost use Rattle.wu_parts.specs.Loading.{IsLoadCause, ReadsFronts, WasHeaderRead, directory_range, end_of as end_of_records, header_range};
-ghost use Rattle.wu_parts.specs.OpenedParts.{ArePartsOpened, CannotBeOpened, EndsBefore, HasBytesAt, HasSize, IsDirectoryIn, IsDirectoryRead, IsHeaderOf, IsPartOpened};
+ghost use Rattle.wu_parts.specs.OpenedParts.{ArePartsOpened, CannotBeOpened, EndsBefore, HasBytesAt, HasSize, IsDirectoryIn, IsDirectoryRead, IsHeaderOf, IsMemoryCause, IsPartOpened};
 
 use crate::writing::StoredPart;
 use std::alloc::Global;
@@ -48,6 +48,8 @@ fn open_part<D: Store>(
 ) -> Result<StoredPart, Trouble>
     ensures opened { IfOk result (IsPartOpened (D.holds store.old) recorded.now (D.reads store.old) (D.reads store.new)) }
     ensures fronts { ReadsFronts (D.holds store.old) (recorded.now ∷ []) (D.reads store.old) (D.reads store.new) }
+    ensures memory { result ≡ Err Trouble.NoMemory
+        → IsMemoryCause (D.holds store.old) recorded.now (D.reads store.old) (D.reads store.new) }
     ensures holds { D.holds store.new ≡ D.holds store.old }
     ensures moments { D.moments store.new ≡ D.moments store.old }
     ensures calm { OnOk result (D.faults store.new ≡ D.faults store.old) }
@@ -90,7 +92,8 @@ fn tells(directory: &Directory, recorded: &PartRec) -> bool
 }
 
 /// The directory of the part's blob. None where the blob is absent, has another size than recorded or no
-/// directory.
+/// directory. It is out of memory only where it wasn't found so: before a read, or before the size was told, or where
+/// that is right.
 fn directory_in<D: Store>(
     alloc: Global,
     store: &mut D,
@@ -101,6 +104,8 @@ fn directory_in<D: Store>(
     ensures none { IfOk result (λ found. IfNone found (CannotBeOpened (D.holds store.old) recorded.now)) }
     ensures fronts { ReadsFronts (D.holds store.old) (recorded.now ∷ []) (D.reads store.old) (D.reads store.new) }
     ensures read { OnOk result (WasHeaderRead (D.reads store.old) (D.reads store.new) recorded.now.blob) }
+    ensures memory { result ≡ Err Trouble.NoMemory
+        → IsMemoryCause (D.holds store.old) recorded.now (D.reads store.old) (D.reads store.new) }
     ensures holds { D.holds store.new ≡ D.holds store.old }
     ensures moments { D.moments store.new ≡ D.moments store.old }
     ensures calm { OnOk result (D.faults store.new ≡ D.faults store.old) }
@@ -180,11 +185,36 @@ fn directory_after<D: Store>(
     ensures calm { OnOk result (D.faults store.new ≡ D.faults store.old) }
     ensures cause { IfErr result (IsStoreCause (D.faults store.old) (D.faults store.new)) }
 {
-    let mut bytes = vec![in alloc; 0u8; length as usize]?;
-    if !fill(store, recorded.blob, HEADER_LEN as u64, &mut bytes)? {
+    match directory_bytes(alloc, store, recorded.blob, length)? {
+        Some(bytes) => Ok(keep_directory(alloc, bytes, recorded.size)?),
+        None => Ok(None),
+    }
+}
+
+/// So many bytes of the blob after its header, in one read. None where it is absent or has fewer. Memory is taken
+/// before the store is asked.
+fn directory_bytes<D: Store>(
+    alloc: Global,
+    store: &mut D,
+    blob: u64,
+    count: u64,
+) -> Result<Option<Vec<u8>>, Trouble>
+    ensures long { IfOk result (λ found. IfSome found (λ bytes. length bytes.items ≡ count)) }
+    ensures found { IfOk result (λ found. IfSome (D.holds store.old) (λ content. MatchOption found
+        (EndsBefore (content.blobs blob) header_length count)
+        (λ bytes. HasBytesAt (content.blobs blob) header_length bytes.items))) }
+    ensures holds { D.holds store.new ≡ D.holds store.old }
+    ensures moments { D.moments store.new ≡ D.moments store.old }
+    ensures read { OnOk result (D.reads store.new ≡ adds (directory_range blob count ∷ []) (D.reads store.old)) }
+    ensures unread { OnErr result (D.reads store.new ≡ D.reads store.old) }
+    ensures calm { OnOk result (D.faults store.new ≡ D.faults store.old) }
+    ensures cause { IfErr result (IsStoreCause (D.faults store.old) (D.faults store.new)) }
+{
+    let mut bytes = vec![in alloc; 0u8; count as usize]?;
+    if !fill(store, blob, HEADER_LEN as u64, &mut bytes)? {
         return Ok(None);
     }
-    Ok(keep_directory(alloc, bytes, recorded.size)?)
+    Ok(Some(bytes))
 }
 
 /// Fills the buffer with the bytes of the blob from that place on, in one read. Answers whether the blob has so

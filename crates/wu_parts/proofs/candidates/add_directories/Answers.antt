@@ -1,4 +1,4 @@
-use Rattle.std.proofs.Common.{◌≤◌, ◌+◌, ◌<◌, List, length, take, take_all, rules, subst, arith}
+use Rattle.std.proofs.Common.{◌≤◌, ◌+◌, ◌<◌, List, length, take, take_all, rules, subst}
 use Rattle.wu_parts.specs.Candidates.{GainsCandidates, terms_listed}
 use Rattle.wu_parts.specs.declared.writing.StoredPart.{StoredPart}
 use Rattle.wu_parts.proofs.MoreCandidates.{gains_more, gains_none, listed_in, next_listed}

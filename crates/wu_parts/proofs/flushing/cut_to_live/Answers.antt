@@ -13,7 +13,7 @@ pub put_live-requires-clause-all : goal.put_live-requires-clause-all
 put_live-requires-clause-all c t =
     walked_all (λ (address : ℕ). is_live c.args.live.now address ≡ true) c.args.start c.args.links.now c.args.entries.now
     c.loop-entry.entry-index _ c.in_ok-addresses.addresses.items c.requires.chains (omega arith) c.in_ok-addresses.ensures.addresses
-    (c.are_covered-all_live.ensures t)
+    (c.are_covered-all_live.ensures.0 t)
 
 pub put_live-requires-clause-low : goal.put_live-requires-clause-low
 put_live-requires-clause-low c =
@@ -22,7 +22,7 @@ put_live-requires-clause-low c =
     c.args.entries.now c.loop-entry.entry-index _ c.in_ok-addresses.addresses.items c.requires.chains (omega arith)
     c.in_ok-addresses.ensures.addresses
     (λ address from below alive.
-    let first : c.first_start.result ≤ address = live_from c.first_start.result (2 ^ 64 - 1) live address c.first_start.ensures alive in
+    let first : c.first_start.result ≤ address = live_from c.first_start.result (2 ^ 64 - 1) live address c.first_start.ensures.order alive in
     omega (arith, c.loop-entry.invariant.low, c.max-low.ensures))
 
 pub loop-entry-preserved : goal.loop-entry-preserved

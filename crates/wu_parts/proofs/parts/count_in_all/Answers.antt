@@ -1,4 +1,4 @@
-use Rattle.std.proofs.Common.{◌≤◌, ◌<◌, ◌≡◌, ◌-◌, ◌^◌, List, length, min, take, take_all, rules, subst, arith}
+use Rattle.std.proofs.Common.{◌≤◌, ◌<◌, ◌≡◌, ◌-◌, ◌^◌, List, length, min, take_all, rules, subst, arith}
 use Rattle.wu_parts.specs.Contents.{counted_of}
 use Rattle.wu_parts.specs.StoredParts.{directories_of}
 use Rattle.wu_parts.specs.declared.writing.StoredPart.{StoredPart}

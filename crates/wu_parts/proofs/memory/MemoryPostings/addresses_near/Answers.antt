@@ -44,7 +44,7 @@ returns-in-Some-clause-live c =
     sym (held-found start links c.args.term.now c.self.inside.chains.entries c.in-Some.chain.now (sym c.in-Some.ensures.value))
     ∙ ap (λ (m : Memory). held m c.args.term.now) c.self.view_is in
     let same : live (near links) ≡ live (held c.args.self.now c.args.term.now) =
-    filter-from low (2 ^ 64 - 1) c.args.frames.now c.first_start-low.ensures (moved start (places_of links c.in-Some.chain.now))
+    filter-from low (2 ^ 64 - 1) c.args.frames.now c.first_start-low.ensures.order (moved start (places_of links c.in-Some.chain.now))
     ∙ ap live all in
     IfOk-weaker c.addresses_from.result (λ (found : Vec ℕ Global). found.items ≡ near c.deref.result.now)
     (λ (found : Vec ℕ Global). live found.items ≡ live (held c.args.self.now c.args.term.now))
