@@ -171,9 +171,9 @@ impl Job {
     }
 
     /// Does the first term that is left, of which there is one at least: reads its blocks in the parts, from left to
-    /// right, each whole in one read and nothing else, and keeps of its addresses those that were live when the job
-    /// began. Done comes exactly with the last term. On Ok each block lay whole in its blob and was the spelling of
-    /// addresses as the directory tells, and no address that was kept stands in two lists.
+    /// right, each whole in one read and no other range of a blob, and keeps of its addresses those that were live when
+    /// the job began. Done comes exactly with the last term. On Ok each block lay whole in its blob and was the spelling
+    /// of addresses as the directory tells, and no address that was kept stands in two lists.
     ///
     /// Of the parts that have the term one is damaged, named by its blob, exactly where the blob is absent or ends
     /// before the end of one of the term's blocks, where such a block isn't the spelling of addresses as the directory
@@ -369,7 +369,7 @@ fn put_list(
     Ok(())
 }
 
-/// The bytes of the part of the lists, or None where there are none.
+/// The bytes of the part of the lists, or None where there are none, which takes no memory.
 fn part_of(lists: Builder, generation: u32) -> Result<Option<Vec<u8>>, NoMemory>
     requires ascending { IsStrictlySortedBy (slice_cmp nat_cmp) (map (λ list. list.term) lists.lists) }
     requires distinct { IsDistinct eqb (addresses_in lists.lists) }
@@ -377,6 +377,7 @@ fn part_of(lists: Builder, generation: u32) -> Result<Option<Vec<u8>>, NoMemory>
     ensures some { IfOk result (λ part. IfSome part (λ bytes. (0 < length lists.lists) × (directory : PartDirectory)
         × (directory.generation ≡ generation) × SpellsPart directory lists.lists bytes.items)) }
     ensures none { IfOk result (λ part. IfNone part (lists.lists ≡ [])) }
+    ensures err { OnErr result (0 < length lists.lists) }
 {
     if lists.is_empty() {
         return Ok(None);

@@ -1,5 +1,6 @@
 //! A term's addresses in a part, from the store.
-ghost use Rattle.std.specs.Prelude.{◌≡◌, ◌==◌, ◌+◌, ◌<◌, [], ◌∷◌, ◌++◌, true, false, get_or, length, MatchOption, Some, IfOk, IfErr, IfSome, OnOk};
+ghost use Rattle.std.specs.Prelude.{◌≡◌, ◌==◌, ◌+◌, ◌<◌, [], ◌∷◌, ◌++◌, true, false, get_or, length, MatchOption, Some, IfOk, IfErr, IfSome, OnErr, OnOk};
+ghost use Rattle.std.specs.Option.{IsSomeAnd};
 ghost use Rattle.std.specs.List.{AllByRecursion, list_any};
 ghost use Rattle.wu_base.specs.declared.limits.TheConstants.{ADDRESSES_MAX};
 ghost use Rattle.wu_layout.specs.Ascending.{AscendBetween};
@@ -64,7 +65,7 @@ fn check_unmarked(marks: &Marks, places: &[u64], blob: u64) -> Result<(), Troubl
     Ok(())
 }
 
-/// The addresses of the term in the part: none where its directory doesn't have the term.
+/// The addresses of the term in the part: none where its directory doesn't have the term, and no error then.
 fn read_term<D: Store>(
     alloc: Global,
     store: &mut D,
@@ -79,6 +80,7 @@ fn read_term<D: Store>(
         → list_any (λ range. range.blob == source.now.recorded.blob) (ranges_of term.now (part_of source.now)) ≡ true) }
     ensures held { IfOk result (λ found. IfSome (D.holds store.old) (λ content.
         HoldsTerm content term.now (part_of source.now) found.items)) }
+    ensures err { OnErr result (IsSomeAnd entry.entry (λ found. found.term ≡ term.now)) }
     ensures whole { OnOk result (IfSome (D.holds store.old) (λ content. HasWholeRanges content (ranges_of term.now (part_of source.now)))) }
     ensures holds { D.holds store.new ≡ D.holds store.old }
     ensures still { D.moments store.new ≡ D.moments store.old }

@@ -1,9 +1,12 @@
-use Rattle.std.proofs.Common.{◌≡◌, ◌<◌, ◌==◌, true, ℕ, List, [], length, refl, sym, ap, subst, ◌∙◌}
+use Rattle.std.proofs.Common.{◌≡◌, ◌<◌, ◌==◌, true, ℕ, List, [], Option, length, refl, sym, ap, subst, ◌∙◌}
 use Rattle.std.specs.Prelude.{IfSome}
 use Rattle.std.specs.List.{list_any}
+use Rattle.std.specs.Option.{IsSomeAnd}
 use Rattle.std.proofs.lemmas.Result.{IfErr-weaker, IfOk-weaker, on_ok_weaker}
+use Rattle.wu_base.proofs.Results.{on_err}
 use Rattle.wu_layout.proofs.EntryLemmas.{IfSome-all, IfSome-map}
 use Rattle.wu_outside.specs.declared.ranges.ReadRange.{ReadRange}
+use Rattle.wu_part.specs.declared.entries.TermEntry.{TermEntry}
 use Rattle.wu_job.specs.Jobs.{HoldsEntry, HoldsTerm}
 use Rattle.wu_job.specs.Reading.{AreNoBlocks, IsNoPartOf}
 use Rattle.wu_job.specs.Sources.{part_of}
@@ -17,6 +20,11 @@ pub read_list-requires : goal.read_list-requires
 read_list-requires g c =
     let has = found_has c.args.source.now.directory.terms _ c.in-Some.entry c.requires.has c.in-Some.ensures.0 in
     entry_of_directory c.args.source.now.directory _ c.in-Some.entry c.is_spelled.ensures.1.holds has
+
+pub returns-in-Some-clause-err : goal.returns-in-Some-clause-err
+returns-in-Some-clause-err g c =
+    on_err c.read_list.result
+    (subst (λ (o : Option TermEntry). IsSomeAnd o (λ found. found.term ≡ c.args.term.now)) (sym c.in-Some.ensures.0) c.in-Some.ensures.1)
 
 pub returns-in-Some-clause-held : goal.returns-in-Some-clause-held
 returns-in-Some-clause-held g c =
