@@ -16,7 +16,7 @@ use Rattle.wu_image.specs.declared.records.FileRec.{FileRec}
 use Rattle.wu_image.specs.Texts.{IsBrokenText}
 use Rattle.wu_query.specs.Causes.{IsBrokenIn, WasRead}
 use Rattle.wu_query.specs.Finding.{IsCause}
-use Rattle.wu_query.specs.Reads.{text_ranges}
+use Rattle.wu_query.specs.Reads.{HasAtLeast, text_ranges}
 use Rattle.wu_query.specs.Soundness.{IsRecord}
 use Rattle.wu_query.proofs.PermittedBlocks.{reads_joined}
 
@@ -104,6 +104,24 @@ count_cause holds file count buffer before now trouble some some_bytes told whol
         → IfSome held (λ content. IsBrokenText file (content.blobs file.blob))
     broken None h = tt
     broken (Some content) h = of_count (content.blobs file.blob) h
+
+-- all of it was there to be read
+pub count_right : (holds : Option Content) (file : FileRec) (count : Option ℕ) (buffer : List ℕ)
+    → IfSome holds (λ content. ReadsFrom (content.blobs file.blob) 0 count buffer) → count ≡ Some file.len
+    → IfSome holds (λ content. HasAtLeast file.len (content.blobs file.blob))
+count_right holds file count buffer told is = there holds told
+  where
+    of_count : (held : Option (List ℕ)) → ReadsFrom held 0 count buffer → HasAtLeast file.len held
+    of_count None e = absurd cc
+    of_count (Some bytes) e =
+        let all : Some file.len ≡ Some (length (take (length buffer) bytes)) = sym is ∙ e.0 in
+        let same : file.len ≡ length (take (length buffer) bytes) = cc in
+        omega (arith, same, length-take (length buffer) bytes)
+
+    there : (held : Option Content) → IfSome held (λ content. ReadsFrom (content.blobs file.blob) 0 count buffer)
+        → IfSome held (λ content. HasAtLeast file.len (content.blobs file.blob))
+    there None h = tt
+    there (Some content) h = of_count (content.blobs file.blob) h
 
 -- it is of another size than recorded
 pub size_cause : (holds : Option Content) (file : FileRec) (size : Option ℕ) (before now : ℕ) {ranges ranges_now : Option (List ReadRange)}

@@ -1,6 +1,6 @@
 -- Which ranges of the store a query reads: blocks of its terms, and then the texts of the files of which a line is shown, or which are
 -- exported.
-use Rattle.std.specs.Prelude.{◌≡◌, ⊤, ℕ, ◌-◌, ◌==◌, nat_lt, min, List, [], ◌∷◌, ◌++◌, length, Option, None, Some, IfSome, option_map}
+use Rattle.std.specs.Prelude.{◌≡◌, ◌⊎◌, ⊤, ℕ, ◌-◌, ◌≤◌, ◌==◌, nat_lt, min, List, [], ◌∷◌, ◌++◌, length, Option, None, Some, IfSome, option_map}
 use Rattle.std.specs.Prelude.{if◌then◌else◌}
 use Rattle.std.specs.List.{AllByRecursion, flat_map}
 use Rattle.wu_outside.specs.declared.ranges.ReadRange.{ReadRange}
@@ -88,6 +88,18 @@ HasWholeText holds file = IfSome holds (λ content. IsWholeText file (content.bl
 -- the range is one that is read of the recorded text of one of the files, which the store has as it was recorded
 abbrev pub IsTextOf : Option Content → Records → ReadRange → Type 0
 IsTextOf holds files range = SomeOf (λ file. IsOfText file.1.blob file.1.len range × HasWholeText holds file.1) files
+
+-- the blob is there, and has so many bytes or more
+abbrev pub HasAtLeast : ℕ → Option (List ℕ) → Type 0
+HasAtLeast len None = ⊥
+HasAtLeast len (Some bytes) = len ≤ length bytes
+
+-- A text wasn't read, or it was, where as many bytes were there as are recorded, and the size of its blob wasn't told.
+abbrev pub StopsUnsized : Option Content → FileRec → Option (List ReadRange) → Option (List ReadRange) → Type 0
+StopsUnsized holds file before after =
+    (after ≡ before)
+    ⊎ ((after ≡ option_map (λ ranges. ranges ++ record { blob = file.blob; at = 0; len = file.len } ∷ []) before)
+    × IfSome holds (λ content. HasAtLeast file.len (content.blobs file.blob)))
 
 -- texts of files, and none where the question has none shown
 pub record AreTexts (holds : Option Content) (files : Records) (question : Question) (texts : List ReadRange) : Type 0 where

@@ -12,7 +12,7 @@ ghost use Rattle.wu_query.specs.Exporting.{held_of, shown_at, size_recorded};
 ghost use Rattle.wu_query.specs.Finding.{AreFirstOf, CanBeRead, IsCause, KeepsTexts};
 ghost use Rattle.wu_query.specs.Finding.{text_at, text_recorded};
 ghost use Rattle.wu_query.specs.Permitted.{AreReadForQuery, ReadsSuch};
-ghost use Rattle.wu_query.specs.Reads.{IsTextOf};
+ghost use Rattle.wu_query.specs.Reads.{IsTextOf, StopsUnsized};
 ghost use Rattle.wu_query.specs.Records.{record_at};
 ghost use Rattle.wu_query.specs.Searched.{Indexes};
 ghost use Rattle.wu_query.specs.States.{State};
@@ -117,7 +117,8 @@ fn with_texts<'a, D: Store>(
     Ok(written)
 }
 
-/// The text of the file of that number; a file without a record has the empty one.
+/// The text of the file of that number; a file without a record has the empty one. It is out of memory only before the
+/// size of the text's blob was told.
 fn text_of<D: Store>(
     alloc: Global,
     store: &mut D,
@@ -135,6 +136,8 @@ fn text_of<D: Store>(
         ranges ++ text_recorded (record_at files.now.entries ino)) (D.reads store.old)) }
     ensures only { ReadsSuch (AreFirstOf (text_recorded (record_at files.now.entries ino)))
         (D.reads store.old) (D.reads store.new) }
+    ensures memory { result ≡ Err Trouble.NoMemory → IsSomeAnd (record_at files.now.entries ino)
+        (λ file. StopsUnsized (D.holds store.old) file (D.reads store.old) (D.reads store.new)) }
     ensures cause { IfErr result (IsCause (λ blob. IsSomeAnd (record_at files.now.entries ino)
         (λ file. IsBrokenIn (D.holds store.old) file blob))
         (D.faults store.old) (D.faults store.new) (D.reads store.old) (D.reads store.new)) }

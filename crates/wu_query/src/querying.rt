@@ -35,6 +35,9 @@ use wu_space::Space;
 use wu_tree::Tree;
 
 /// The answer to the query. The user's frames are kept for her next one.
+///
+/// Errors are out of memory; a fault of the store, only where it had one in this call; and a blob, damaged: a part of
+/// which this call read a block that the query needs, or a text that it read.
 pub fn answered<D: Store>(
     alloc: Global,
     store: &mut D,
@@ -71,7 +74,8 @@ pub fn answered<D: Store>(
     kept.prepare(tree, space, query.uid)?;
     match kept.kept(query.uid) {
         Some(frames) => answer(alloc, store, frames, space, parts, files, &query.ask),
-        None => Err(Trouble::NoMemory),
+        // They were just prepared.
+        None => unreachable!(),
     }
 }
 

@@ -1,5 +1,5 @@
 //! The ranking of a query's units, over a user's frames, and how many of them could be among the first.
-ghost use Rattle.std.specs.Prelude.{◌≡◌, ◌≤◌, ◌<◌, ◌^◌, ℕ, List, All, true, length, map, take, find, nat_eq, option_copied, IfOk, IfErr, OnOk};
+ghost use Rattle.std.specs.Prelude.{◌≡◌, ◌↔◌, ◌≤◌, ◌<◌, ◌^◌, ℕ, List, All, IsTrue, length, map, take, find, nat_eq, option_copied, IfOk, IfErr, OnOk};
 ghost use Rattle.std.specs.Cmp.Lexicographic.{pointwise};
 ghost use Rattle.std.specs.List.{AllByRecursion};
 ghost use Rattle.std.specs.List.Sorted.{IsStrictlyIncreasing};
@@ -166,7 +166,7 @@ fn rank_units(
 
 /// Whether the lists are those of the words, in turn.
 fn are_of(lists: &[TermList], words: &[Bytes]) -> bool
-    ensures { result ≡ true → map (λ list. list.term) lists.now ≡ words.now }
+    ensures { IsTrue result ↔ (map (λ list. list.term) lists.now ≡ words.now) }
 {
     if lists.len() != words.len() {
         return false;

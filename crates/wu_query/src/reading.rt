@@ -8,7 +8,7 @@ ghost use Rattle.wu_image.specs.Images.{text_held};
 ghost use Rattle.wu_query.specs.Finding.{AreFirstOf, IsCause};
 ghost use Rattle.wu_query.specs.Causes.{IsBrokenIn};
 ghost use Rattle.wu_query.specs.Permitted.{ReadsSuch};
-ghost use Rattle.wu_query.specs.Reads.{HasWholeText, text_ranges, whole_text};
+ghost use Rattle.wu_query.specs.Reads.{HasWholeText, StopsUnsized, text_ranges, whole_text};
 ghost use Rattle.wu_query.specs.Soundness.{IsRecord};
 
 use std::alloc::Global;
@@ -17,9 +17,12 @@ use wu_image::FileRec;
 use wu_outside::Store;
 use wu_token::token_count;
 
-/// The text that is recorded there, read whole in one read, after which its size is asked; the empty text is
-/// not read. A text that the store doesn't have as it was recorded, in its length and in the number of its
-/// tokens, is answered by its blob once it was read.
+/// The text that the record tells of, read whole in one read, after which the size of its blob is asked. The empty text
+/// is in no blob, and isn't read.
+///
+/// Errors are out of memory, only before that size was told; a fault of the store, only where it had one in this call;
+/// and the blob, damaged, of which bytes were read: it is absent, or has another length than recorded, or another number
+/// of tokens.
 pub fn read_text<D: Store>(alloc: Global, store: &mut D, file: &FileRec) -> Result<Vec<u8>, Trouble>
     requires { IsRecord (file.now.ino, file.now) }
     ensures text { IfOk result (λ text. IfSome (D.holds store.old) (λ content. text.items ≡ text_held content file.now)) }
@@ -31,6 +34,8 @@ pub fn read_text<D: Store>(alloc: Global, store: &mut D, file: &FileRec) -> Resu
     ensures reads { OnOk result (D.reads store.new
         ≡ option_map (λ ranges. ranges ++ whole_text file.now.blob file.now.len) (D.reads store.old)) }
     ensures only { ReadsSuch (AreFirstOf (whole_text file.now.blob file.now.len)) (D.reads store.old) (D.reads store.new) }
+    ensures memory { result ≡ Err Trouble.NoMemory
+        → StopsUnsized (D.holds store.old) file.now (D.reads store.old) (D.reads store.new) }
     ensures cause { IfErr result (IsCause (IsBrokenIn (D.holds store.old) file.now)
         (D.faults store.old) (D.faults store.new) (D.reads store.old) (D.reads store.new)) }
 {
@@ -66,6 +71,8 @@ fn read_blob<D: Store>(alloc: Global, store: &mut D, file: &FileRec) -> Result<V
     ensures reads { OnOk result (D.reads store.new
         ≡ option_map (λ ranges. ranges ++ text_ranges file.now.blob file.now.len) (D.reads store.old)) }
     ensures only { ReadsSuch (AreFirstOf (text_ranges file.now.blob file.now.len)) (D.reads store.old) (D.reads store.new) }
+    ensures memory { result ≡ Err Trouble.NoMemory
+        → StopsUnsized (D.holds store.old) file.now (D.reads store.old) (D.reads store.new) }
     ensures cause { IfErr result (IsCause (IsBrokenIn (D.holds store.old) file.now)
         (D.faults store.old) (D.faults store.new) (D.reads store.old) (D.reads store.new)) }
 {

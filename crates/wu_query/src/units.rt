@@ -87,8 +87,8 @@ fn frames_from(frames: &[Frame], address: u64) -> &[Frame]
     frames.split_at(count_passed(frames, address)).1
 }
 
-/// How many frames start by the address, but for the last of them: all of these end by it. Takes time logarithmic
-/// in their number.
+/// A number of first frames that end by the address, found in time logarithmic in it: all that start by the address but
+/// the last of them. That there are no more is a matter of time alone, and no clause says so.
 fn count_passed(frames: &[Frame], address: u64) -> usize
     requires { AreApart (map (λ frame. frame.range) frames.now) }
     ensures within { result ≤ length frames.now }
@@ -99,7 +99,8 @@ fn count_passed(frames: &[Frame], address: u64) -> usize
     started.saturating_sub(1)
 }
 
-/// At most twice as many of the first frames as start by the address, or one: none of the others does.
+/// How many of the first frames are searched for those that start by the address: one, or up to twice as many as do, and
+/// never more than there are. That none of the others does is a matter of time alone, and no clause says so.
 fn reach_of_started(frames: &[Frame], address: u64) -> usize
     ensures { result ≤ length frames.now }
 {

@@ -6,7 +6,7 @@ use Rattle.std.proofs.lemmas.Result.{on_ok_weaker}
 use Rattle.wu_image.specs.declared.records.FileRec.{FileRec}
 use Rattle.wu_query.specs.Causes.{IsBrokenIn}
 use Rattle.wu_query.specs.Exporting.{held_of}
-use Rattle.wu_query.specs.Reads.{HasWholeText}
+use Rattle.wu_query.specs.Reads.{HasWholeText, StopsUnsized}
 use Rattle.wu_query.proofs.AnswerLemmas.{if_ok}
 use Rattle.wu_query.proofs.ReadCauses.{cause_after, if_err, recorded}
 use Rattle.wu_query.proofs.WholeTexts.{whole_recorded}
@@ -34,6 +34,13 @@ returns-in-Some-clause-reads g c = rw (sym c.in-Some.ensures.value) c.read_text.
 
 pub returns-in-Some-clause-only : goal.returns-in-Some-clause-only
 returns-in-Some-clause-only g c = rw (sym c.in-Some.ensures.value) c.read_text.ensures.only
+
+pub returns-in-Some-clause-memory : goal.returns-in-Some-clause-memory
+returns-in-Some-clause-memory g c = λ out.
+    subst
+    (λ (o : Option FileRec). IsSomeAnd o
+    (λ file. StopsUnsized (g.D.Store.holds c.args.store.now) file (g.D.Store.reads c.args.store.now) (g.D.Store.reads c.read_text.new.store)))
+    c.in-Some.ensures.value (c.read_text.ensures.memory out)
 
 pub returns-in-Some-clause-cause : goal.returns-in-Some-clause-cause
 returns-in-Some-clause-cause g c =

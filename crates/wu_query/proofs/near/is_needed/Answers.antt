@@ -1,4 +1,4 @@
-use Rattle.std.proofs.Common.{◌≡◌, ◌∙◌}
+use Rattle.std.proofs.Common.{◌∙◌}
 use Rattle.wu_query.proofs.NearLists.{among_either_way}
 use Rattle.wu_query.proofs.near.is_needed.Goals as goal
 

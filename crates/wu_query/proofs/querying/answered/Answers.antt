@@ -3,7 +3,7 @@ use Rattle.std.proofs.lemmas.Result.{on_ok_weaker}
 use Rattle.wu_ask.specs.Questions.{question_of}
 use Rattle.wu_frames.proofs.Keeping.{right-found}
 use Rattle.wu_query.proofs.AnswerLemmas.{if_ok}
-use Rattle.wu_query.proofs.QueryReads.{cause_of_memory, no_memory, reads_for}
+use Rattle.wu_query.proofs.QueryReads.{cause_of_memory, reads_for}
 use Rattle.wu_query.proofs.ReadCauses.{if_err, query_cause}
 use Rattle.wu_query.proofs.Searching.{can_be_read, can_be_searched, sound_prepared}
 use Rattle.wu_query.proofs.querying.answered.Goals as goal
@@ -21,16 +21,16 @@ answer-requires-clause-records g c =
     can_be_read c.args.tree.now c.args.space.now c.args.parts.now c.args.files.now.entries c.args.kept.now c.keeps_the_rules.ensures
     c.requires.sound
 
-pub returns-in-Some-clause-answer : goal.returns-in-Some-clause-answer
-returns-in-Some-clause-answer g c =
+pub returns-clause-answer : goal.returns-clause-answer
+returns-clause-answer g c =
     let hers = right-found c.args.tree.now c.args.space.now.ranges c.args.query.now.uid c.prepare.new.self c.in-Some.frames.now
     c.prepare.ensures.right c.in-Some.ensures in
     if_ok c.answer.result c.answer.ensures.answer
     (λ answered known. λ s tree index tells texts.
     known s c.args.query.now.uid (record { index = index; hers = rw tree at hers }) tells texts)
 
-pub returns-in-Some-clause-reads : goal.returns-in-Some-clause-reads
-returns-in-Some-clause-reads g c =
+pub returns-clause-reads : goal.returns-clause-reads
+returns-clause-reads g c =
     let hers = right-found c.args.tree.now c.args.space.now.ranges c.args.query.now.uid c.prepare.new.self c.in-Some.frames.now
     c.prepare.ensures.right c.in-Some.ensures in
     on_ok_weaker c.answer.result
@@ -39,8 +39,8 @@ returns-in-Some-clause-reads g c =
     (g.D.Store.reads c.answer.new.store) c.in-Some.frames.now hers)
     c.answer.ensures.reads
 
-pub returns-in-Some-clause-permitted : goal.returns-in-Some-clause-permitted
-returns-in-Some-clause-permitted g c = λ s tree index tells texts.
+pub returns-clause-permitted : goal.returns-clause-permitted
+returns-clause-permitted g c = λ s tree index tells texts.
     let uid = c.args.query.now.uid in
     let live = c.args.space.now.ranges in
     c.answer.ensures.permitted s uid
@@ -50,8 +50,8 @@ returns-in-Some-clause-permitted g c = λ s tree index tells texts.
           at (right-found c.args.tree.now live uid c.prepare.new.self c.in-Some.frames.now c.prepare.ensures.right c.in-Some.ensures);
     }) tells texts
 
-pub returns-in-Some-clause-sound : goal.returns-in-Some-clause-sound
-returns-in-Some-clause-sound g c =
+pub returns-clause-sound : goal.returns-clause-sound
+returns-clause-sound g c =
     sound_prepared c.args.tree.now c.args.space.now c.args.parts.now c.answer.new.parts c.args.files.now.entries c.args.kept.now
     c.prepare.new.self c.answer.ensures.others c.prepare.ensures.right c.requires.sound
 
@@ -60,13 +60,8 @@ returns-in_err-prepare-clause-sound g c =
     sound_prepared c.args.tree.now c.args.space.now c.args.parts.now c.args.parts.now c.args.files.now.entries c.args.kept.now
     c.prepare.new.self refl c.prepare.ensures.right c.requires.sound
 
-pub returns-in-None-clause-sound : goal.returns-in-None-clause-sound
-returns-in-None-clause-sound g c =
-    sound_prepared c.args.tree.now c.args.space.now c.args.parts.now c.args.parts.now c.args.files.now.entries c.args.kept.now
-    c.prepare.new.self refl c.prepare.ensures.right c.requires.sound
-
-pub returns-in-Some-clause-cause : goal.returns-in-Some-clause-cause
-returns-in-Some-clause-cause g c =
+pub returns-clause-cause : goal.returns-clause-cause
+returns-clause-cause g c =
     let frames = c.in-Some.frames.now in
     let hers = right-found c.args.tree.now c.args.space.now.ranges c.args.query.now.uid c.prepare.new.self frames
     c.prepare.ensures.right c.in-Some.ensures in
@@ -75,6 +70,3 @@ returns-in-Some-clause-cause g c =
 
 pub returns-in_err-prepare-clause-cause : goal.returns-in_err-prepare-clause-cause
 returns-in_err-prepare-clause-cause g c = cause_of_memory c.from_residual.result _ _ _ refl c.from_residual.ensures.1
-
-pub returns-in-None-clause-cause : goal.returns-in-None-clause-cause
-returns-in-None-clause-cause g c = no_memory

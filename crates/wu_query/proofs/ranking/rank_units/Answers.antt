@@ -10,7 +10,7 @@ returns-then-are_of c =
     if_ok c.tell_units.result c.tell_units.ensures
     (λ answered known. λ s uid is region are terms own_terms told own_told among.
     known s uid is region are words
-    (told_of (found_in c.args.frames.now.ranges s) own_terms words c.args.own.now own_told (c.are_of.ensures c.if-are_of.true)))
+    (told_of (found_in c.args.frames.now.ranges s) own_terms words c.args.own.now own_told (c.are_of.ensures.0 c.if-are_of.true)))
 
 pub returns : goal.returns
 returns c =

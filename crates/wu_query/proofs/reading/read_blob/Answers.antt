@@ -1,8 +1,8 @@
-use Rattle.std.proofs.Common.{◌∙◌, [], ◌∷◌, refl, rules}
+use Rattle.std.proofs.Common.{◌∙◌, [], ◌∷◌, inr, refl, rules}
 use Rattle.wu_outside.specs.Ranges.{asked_size}
 use Rattle.wu_query.proofs.PassedCauses.{err_from}
 use Rattle.wu_query.proofs.PermittedTexts.{all_read}
-use Rattle.wu_query.proofs.ReadTexts.{IsReadThen, count_cause, read_asked, size_cause}
+use Rattle.wu_query.proofs.ReadTexts.{IsReadThen, count_cause, count_right, read_asked, size_cause}
 use Rattle.wu_query.specs.Reads.{text_ranges}
 use Rattle.wu_query.proofs.reading.read_blob.Goals as goal
 
@@ -17,6 +17,16 @@ returns-in_err-size-clause-only g c =
     let file = c.args.file.now in
     let is_read : IsReadThen file [] (g.D.Store.reads c.args.store.now) (g.D.Store.reads c.size.new.self) = search rules in
     (record { blob = file.blob; at = 0; len = file.len } ∷ [], (asked_size file.blob ∷ [], refl), is_read)
+
+pub returns-in_err-size-clause-memory : goal.returns-in_err-size-clause-memory
+returns-in_err-size-clause-memory g c = λ _.
+    let file = c.args.file.now in
+    let is_read : IsReadThen file [] (g.D.Store.reads c.args.store.now) (g.D.Store.reads c.size.new.self) = search rules in
+    inr (
+      is_read,
+      count_right (g.D.Store.holds c.args.store.now) file c.in_ok-count.count c.read.new.buf c.in_ok-count.ensures.bytes
+          c.in_ok-check_count.ensures.count,
+    )
 
 pub returns-in_err-check_size-clause-only : goal.returns-in_err-check_size-clause-only
 returns-in_err-check_size-clause-only g c =
