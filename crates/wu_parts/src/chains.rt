@@ -114,8 +114,8 @@ fn make_room(links: &mut Vec<u32>) -> Result<(), NoMemory>
     Ok(())
 }
 
-/// Forgets the chains. The memory of the links is given back; the map is a new one, and what room that has no clause
-/// tells.
+/// Forgets the chains, and gives the memory of the links back. The map is a new, empty one; no clause speaks of its
+/// room.
 pub(crate) fn forget(alloc: Global, chains: &mut IndexMap<Vec<u8>, Chain>, links: &mut Vec<u32>)
     ensures chains { chains.new.entries ≡ [] }
     ensures links { links.new.items ≡ [] }

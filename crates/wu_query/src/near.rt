@@ -174,8 +174,8 @@ fn lists_for(
     }
 }
 
-/// The place of a needed term, which any of them may be: only time depends on which one. It is one with the fewest
-/// addresses, if these are few beside those of all terms, and None otherwise.
+/// The place of a needed term with the fewest addresses, if they are few beside those of all terms. The clause says no
+/// more than that the term is needed, since only time depends on which one it is, and on whether there is one.
 fn rare_place(needed: &[Bytes], gathered: &[GatheredTerm]) -> Option<usize>
     requires { IsStrictlySortedBy (slice_cmp nat_cmp) needed.now }
     ensures { IfSome result (IsNeededAt needed.now gathered.now) }
