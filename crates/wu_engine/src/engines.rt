@@ -1,5 +1,5 @@
 //! The engine, how it is opened, and how it is saved.
-ghost use Rattle.std.specs.Prelude.{◌≡◌, ◌+◌, ◌<◌, ◌^◌, None, Some, OnOk};
+ghost use Rattle.std.specs.Prelude.{◌≡◌, ◌+◌, ◌<◌, ◌^◌, None, Some, OnErr, OnOk};
 ghost use Rattle.std.specs.Coded.{→_prop};
 ghost use Rattle.wu_query.specs.Soundness.{IsSound, IsSound-prop};
 
@@ -87,7 +87,8 @@ impl Engine {
     /// and then removes the blobs that are no longer needed and the checkpoint before. A job under
     /// way goes on, and is not part of what is saved. Until the new root is there the store holds
     /// all that the last one names. Nothing is read. Whatever it answers, the tree, the addresses,
-    /// what is recorded of texts, and the kept frames stay as they are.
+    /// what is recorded of texts, and the kept frames stay as they are; after an error so does the
+    /// number of the checkpoint.
     ///
     /// The number of the next blob, with two added, and that of the flushes, with one, are below
     /// 2^63. The errors are a fault of the store and out of memory. Each ends the engine, and a
@@ -101,6 +102,8 @@ impl Engine {
         ensures saved { LeavesSaved D.Store self.old store.old store.new result }
         // Of the engine only the parts and the checkpoint's number change.
         ensures same { KeepsFiles self.old self.new }
+        // After an error that number is as it was.
+        ensures checkpoint { OnErr result (self.new.checkpoint ≡ self.old.checkpoint) }
         // At most two blobs are drawn.
         ensures numbers { DrawsAtMost 2 self.old.parts self.new.parts }
         // The checkpoint is synced before the root is set, and that is synced before anything is
