@@ -19,9 +19,10 @@ use Rattle.wu_engine.specs.declared.engines.Engine.{Engine}
 use Rattle.wu_engine.specs.declared.faults.BeginFault.{BeginFault}
 use Rattle.wu_engine.specs.declared.faults.BeginFault.TheVariants as faults
 use Rattle.wu_engine.specs.Begun.{SyncsOnly}
-use Rattle.wu_engine.specs.Opened.{AsksCheckpoint, FindsRoot, IsFoundIn, IsSettled, MatchesRoot, ReadsCheckpoint}
-use Rattle.wu_engine.specs.Opening.{HasCheckpoint, HasOpenRoot, HoldsImage, IsBeginCause, IsDamagedAtOpening, IsIndexRange, IsOpen}
-use Rattle.wu_engine.specs.Opening.{IsOpeningRange, IsSpentWhere, Opens, OpensIndex, ReadsAtOpening, checkpoint_range, checkpoint_ranges}
+use Rattle.wu_engine.specs.Opened.{AsksCheckpoint, FindsRoot, IsFoundIn, IsSettled, MatchesRoot, ReadsCheckpoint, TakesCheckpoint}
+use Rattle.wu_engine.specs.Opening.{HasCheckpoint, HasOpenRoot, HasSize, HasSizedCheckpoint, HoldsImage, IsBeginCause, IsDamagedAtOpening}
+use Rattle.wu_engine.specs.Opening.{IsIndexRange, IsOpen, IsOpeningRange, IsSpentWhere, Opens, OpensIndex, ReadsAtOpening, checkpoint_range}
+use Rattle.wu_engine.specs.Opening.{checkpoint_ranges}
 use Rattle.wu_engine.specs.Reindexed.{ReadsIndex}
 use Rattle.wu_engine.proofs.ImageStates.{image_undamaged}
 use Rattle.wu_engine.proofs.LeftImages.{opened_durable, opened_left}
@@ -101,19 +102,31 @@ module _ (root : Root) where
   checkpoint_opening : (content : Content) → HasOpenRoot content root → IsOpeningRange content (checkpoint_range root)
   checkpoint_opening content roomy = (root, roomy, inl (inr (inl refl)))
 
-  -- only the checkpoint and its size, or only its size, or nothing
-  pub reads_checkpoint : (holds : Option Content) (before after : Option (List ReadRange))
-      → IfSome holds (λ content. HasOpenRoot content root)
-      → (after ≡ before) ⊎ (AsksCheckpoint root before after ⊎ ReadsCheckpoint root before after) → ReadsAtOpening holds before after
-  reads_checkpoint holds before after roomy (inl same) = reads_nothing holds before after same
-  reads_checkpoint holds before after roomy (inr (inl asked)) = (asked_size root.checkpoint ∷ [], one_asked holds roomy, asked)
+  -- once its size was asked the checkpoint was read
+  pub asked_then_taken : (first middle last : Option (List ReadRange)) → AsksCheckpoint root first middle
+      → TakesCheckpoint root middle last → ReadsCheckpoint root first last
+  asked_then_taken first middle last asked taken =
+      taken ∙ ap (option_map (λ earlier. earlier ++ checkpoint_range root ∷ [])) asked
+
+  -- only its size, or nothing
+  pub reads_size : (holds : Option Content) (before after : Option (List ReadRange))
+      → IfSome holds (λ content. HasOpenRoot content root) → (after ≡ before) ⊎ AsksCheckpoint root before after
+      → ReadsAtOpening holds before after
+  reads_size holds before after roomy (inl same) = reads_nothing holds before after same
+  reads_size holds before after roomy (inr asked) = (asked_size root.checkpoint ∷ [], one_asked holds roomy, asked)
     where
       one_asked : (held : Option Content) → IfSome held (λ content. HasOpenRoot content root)
           → IfSome held (λ content. AllByRecursion (IsOpeningRange content) (asked_size root.checkpoint ∷ []))
       one_asked None h = tt
       one_asked (Some content) h = (size_opening content h, tt)
-  reads_checkpoint holds before after roomy (inr (inr read)) =
-      (checkpoint_ranges root, one_read holds roomy, both_read before after read)
+
+  -- its size, and then the checkpoint or nothing
+  pub reads_checkpoint : (holds : Option Content) (first middle last : Option (List ReadRange))
+      → IfSome holds (λ content. HasOpenRoot content root) → AsksCheckpoint root first middle
+      → (last ≡ middle) ⊎ TakesCheckpoint root middle last → ReadsAtOpening holds first last
+  reads_checkpoint holds first middle last roomy asked (inl same) = reads_size holds first last roomy (inr (same ∙ asked))
+  reads_checkpoint holds first middle last roomy asked (inr taken) =
+      (checkpoint_ranges root, one_read holds roomy, both_read first last (asked_then_taken first middle last asked taken))
     where
       one_read : (held : Option Content) → IfSome held (λ content. HasOpenRoot content root)
           → IfSome held (λ content. AllByRecursion (IsOpeningRange content) (checkpoint_ranges root))
@@ -193,6 +206,12 @@ checkpoint_read (Some content) root buffer given found e there long spelled none
     rw (there ∙ ap (λ (b : List ℕ). Some b) (sym e))
     (found_in root given found (ap length e ∙ long) spelled none)
 
+-- what is opened has a checkpoint of the size that the root says
+pub sized_checkpoint : (holds : Option Content) (root : Root) → IfSome holds (FindsRoot (Some root))
+    → IfSome holds (λ content. HasSize content root) → IfSome holds HasSizedCheckpoint
+sized_checkpoint None root found sized = tt
+sized_checkpoint (Some content) root found sized = (root, found, sized)
+
 -- ---- an opening, whole
 
 pub never_damaged : {T : Type 0} (holds : Option Content) (before now : ℕ) (r : Result T BeginFault)
@@ -236,6 +255,11 @@ on_no_ok P Q (Err e) is = tt
 pub error_passed : {T E : Type 0} (r : Result T E) (e : E) → IsErrAnd r (λ f. f ≡ e) → r ≡ Err e
 error_passed (Ok x) e h = absurd h
 error_passed (Err f) e h = ap (λ g. Err g) h
+
+-- where memory is wanting, that was passed on
+pub memory_passed : {T : Type 0} (fault : BeginFault) (r : Result T BeginFault) → r ≡ Err fault → r ≡ Err faults.NoMemory
+    → fault ≡ faults.NoMemory
+memory_passed fault r is e = cc (is, e)
 
 module _ (T U : Type 0) where
   abbrev fault_in : Result T BeginFault → BeginFault

@@ -75,6 +75,15 @@ pub record MatchesRoot (root : Root) (checkpoint : Checkpoint) : Type 0 where
 abbrev pub AsksCheckpoint : Root → Option (List ReadRange) → Option (List ReadRange) → Type 0
 AsksCheckpoint root before after = after ≡ option_map (λ earlier. earlier ++ asked_size root.checkpoint ∷ []) before
 
+-- the same of the root that was found, if there is one
+abbrev pub AsksFound : Option Root → Option (List ReadRange) → Option (List ReadRange) → Type 0
+AsksFound None before after = after ≡ before
+AsksFound (Some root) before after = AsksCheckpoint root before after
+
+-- the checkpoint was read, and nothing else
+abbrev pub TakesCheckpoint : Root → Option (List ReadRange) → Option (List ReadRange) → Type 0
+TakesCheckpoint root before after = after ≡ option_map (λ earlier. earlier ++ checkpoint_range root ∷ []) before
+
 -- its size was asked and then it was read, and nothing else
 abbrev pub ReadsCheckpoint : Root → Option (List ReadRange) → Option (List ReadRange) → Type 0
 ReadsCheckpoint root before after =

@@ -1,7 +1,7 @@
 -- How an engine is opened over a store: from the root, the checkpoint that it names, and then, by the version of the root, the parts or
 -- the texts that this records.
-use Rattle.std.specs.Prelude.{◌≡◌, ◌⊎◌, ℕ, ◌≤◌, nat_le, if◌then◌else◌, List, [], ◌∷◌, ◌++◌, Option, None, Some, IfSome, option_map, Result}
-use Rattle.std.specs.Prelude.{Err}
+use Rattle.std.specs.Prelude.{◌≡◌, ◌⊎◌, ℕ, ◌≤◌, nat_le, if◌then◌else◌, List, [], ◌∷◌, ◌++◌, length, Option, None, Some, IfSome, option_map}
+use Rattle.std.specs.Prelude.{Err, Result}
 use Rattle.std.specs.List.{AllByRecursion}
 use Rattle.wu_base.specs.declared.troubles.Trouble.{Trouble}
 use Rattle.wu_base.specs.declared.troubles.Trouble.TheVariants as troubles
@@ -49,6 +49,14 @@ spent_of root =
 pub record HasOpenRoot (content : Content) (root : Root) : Type 0 where
   pub has : HasRoot content root
   pub unspent : spent_of root ≡ None
+
+-- the blob that the root names for its checkpoint has the size that it says
+abbrev pub HasSize : Content → Root → Type 0
+HasSize content root = option_map length (content.blobs root.checkpoint) ≡ Some root.size
+
+-- the content's root leaves room, and its checkpoint has the size that it says
+abbrev pub HasSizedCheckpoint : Content → Type 0
+HasSizedCheckpoint content = (root : Root) × HasOpenRoot content root × HasSize content root
 
 -- the checkpoint that the root names
 pub record HasCheckpoint (content : Content) (root : Root) (checkpoint : Checkpoint) : Type 0 where

@@ -4,7 +4,7 @@ ghost use Rattle.std.specs.Coded.{→_prop};
 ghost use Rattle.wu_query.specs.Soundness.{IsSound, IsSound-prop};
 
 use crate::faults::BeginFault;
-use crate::opening::{open_first, open_root, open_saved};
+use crate::opening::{find_saved, open_first, open_saved};
 use crate::saving::save;
 use std::alloc::Global;
 use std::collections::BTreeMap;
@@ -58,7 +58,8 @@ impl Engine {
     /// which is blob 0, the checkpoint, the parts from left to right or, by the root's version, the
     /// texts. `Spent` comes after the root and before the checkpoint, exactly where the root's next
     /// address is at least SPENT_AT or its next blob at least BLOBS_SPENT_AT, with the first of the
-    /// two that is. Other errors are a fault of the store and out of memory.
+    /// two that is. Other errors are a fault of the store and out of memory; memory is taken for the
+    /// checkpoint only once its size was asked and is the root's.
     pub fn begin<D: Store>(
         alloc: Global,
         store: &mut D,
@@ -76,7 +77,7 @@ impl Engine {
         ensures fails { FailsByCause D.Store store.old store.new result }
     {
         store.sync()?;
-        match open_root(store)? {
+        match find_saved(store)? {
             None => Ok(open_first(alloc, flush_at)?),
             Some(root) => open_saved(alloc, store, &root, flush_at),
         }

@@ -2,6 +2,7 @@
 ghost use Rattle.std.specs.Prelude.{◌≡◌};
 ghost use Rattle.wu_engine.specs.declared.faults.BeginFault.TheVariants.{NoMemory as WantsMemory};
 
+use std::alloc::AllocError;
 use thiserror::Error;
 use wu_base::{NoMemory, Trouble};
 use wu_outside::Fault;
@@ -28,6 +29,14 @@ pub enum BeginFault {
         /// The first of the two numbers that is.
         next: u64,
     },
+}
+
+impl From<AllocError> for BeginFault {
+    ghost from_gives = { λ _ e. e ≡ WantsMemory };
+
+    fn from(_error: AllocError) -> BeginFault {
+        BeginFault::NoMemory
+    }
 }
 
 impl From<NoMemory> for BeginFault {

@@ -1,20 +1,27 @@
 //! Opening of an engine over a store: the root, the checkpoint that it names, and the index.
-ghost use Rattle.std.specs.Prelude.{◌≡◌, ◌⊎◌, ◌≢◌, ◌<◌, ◌≤◌, ◌^◌, IfErr, IfNone, IfOk, IfSome, MatchBool, Some, OnOk, OnSome, None, [], length, map};
+ghost use Rattle.std.specs.Prelude.{◌≡◌, ◌⊎◌, ◌≢◌, ◌<◌, ◌≤◌, ◌^◌, Err, IfErr, IfOk, IfSome, List};
+ghost use Rattle.std.specs.Prelude.{MatchBool, Option, Some, OnOk, None, [], length, map};
 ghost use Rattle.std.specs.List.{AllByRecursion};
 ghost use Rattle.std.specs.List.Sorted.{IsStrictlySortedBy};
 ghost use Rattle.std.specs.Ordering.{nat_cmp};
 ghost use Rattle.lru.specs.LruCache.{lru_cache};
 ghost use Rattle.wu_base.specs.declared.limits.TheConstants.{BLOBS_SPENT_AT, SPENT_AT};
 ghost use Rattle.wu_outside.specs.Content.{Content};
-ghost use Rattle.wu_outside.specs.Faults.{HasFaultCause};
 ghost use Rattle.wu_outside.specs.Reading.{OnlyReads};
+ghost use Rattle.wu_outside.specs.declared.ranges.ReadRange.{ReadRange};
 ghost use Rattle.wu_space.specs.Addresses.{AreLive};
 ghost use Rattle.wu_image.specs.Checkpoints.{IsCheckpoint};
 ghost use Rattle.wu_query.specs.States.{State};
 ghost use Rattle.wu_engine.specs.declared.faults.BeginFault.TheVariants.{Damaged as SavedIsDamaged};
+ghost use Rattle.wu_engine.specs.declared.faults.BeginFault.TheVariants.{NoMemory as WantsMemory};
 ghost use Rattle.wu_engine.specs.Going.{Goes};
-ghost use Rattle.wu_engine.specs.Opened.{AsksCheckpoint, FindsRoot, HasRoom, IsEngineFor, IsFirstEngine, IsFoundIn, IsGivenRoot, IsSettled, MatchesRoot, IsRootFault, IsSpentBy, ReadsCheckpoint, numbered, ranges_recorded};
-ghost use Rattle.wu_engine.specs.Opening.{HasCheckpoint, HasOpenRoot, HoldsImage, IsBeginCause, IsOpen, IsSpentWhere, ReadsAtOpening, spent_of};
+ghost use Rattle.wu_engine.specs.Opened.{AsksCheckpoint, AsksFound, FindsRoot, HasRoom};
+ghost use Rattle.wu_engine.specs.Opened.{IsEngineFor, IsFirstEngine, IsGivenRoot};
+ghost use Rattle.wu_engine.specs.Opened.{IsSettled, MatchesRoot, IsRootFault, IsSpentBy};
+ghost use Rattle.wu_engine.specs.Opened.{TakesCheckpoint, numbered, ranges_recorded};
+ghost use Rattle.wu_engine.specs.Opening.{HasCheckpoint, HasOpenRoot, HasSize, HoldsImage};
+ghost use Rattle.wu_engine.specs.Opening.{IsBeginCause, IsOpen, IsSpentWhere, ReadsAtOpening};
+ghost use Rattle.wu_engine.specs.Opening.{spent_of};
 ghost use Rattle.wu_engine.specs.Stands.{Stands};
 
 use crate::engines::Engine;
@@ -25,17 +32,59 @@ use std::collections::BTreeMap;
 use wu_base::{BLOBS_SPENT_AT, Ino, NoMemory, PartRec, Range, SPENT_AT};
 use wu_frames::FrameCache;
 use wu_image::{Checkpoint, FileRec, ROOT_LEN, Root, read_checkpoint, read_root};
-use wu_outside::{Fault, Store};
+use wu_outside::Store;
 use wu_parts::Parts;
 use wu_space::Space;
 use wu_tree::Tree;
 
-/// The store's root, where it has one. It is broken where it is no root's spelling, and leaves room where its
-/// numbers are below the limits.
+/// The root of what was saved, where the store has one, once it was found that its checkpoint has the size that it
+/// says. Takes no memory: a root that is damaged may say any size.
 ///
 /// The store was synced: over a folder that is what keeps other sessions out, so a root that was
 /// read before may be the one before another session's save.
-pub(crate) fn open_root<D: Store>(store: &mut D) -> Result<Option<Root>, BeginFault>
+pub(crate) fn find_saved<D: Store>(store: &mut D) -> Result<Option<Root>, BeginFault>
+    requires { IsSettled (D.moments store.old) }
+    ensures found { IfOk result (λ found. IfSome (D.holds store.old) (FindsRoot found)) }
+    ensures room { IfOk result (λ found. IfSome found HasRoom) }
+    ensures size { IfOk result (λ found. IfSome found (λ root. IfSome (D.holds store.old) (λ content. HasSize content root))) }
+    ensures store { OnlyReads D.Store store.old store.new result }
+    ensures asked { IfOk result (λ found. AsksFound found (D.reads store.old) (D.reads store.new)) }
+    ensures reads { ReadsAtOpening (D.holds store.old) (D.reads store.old) (D.reads store.new) }
+    ensures memory { result ≡ Err WantsMemory → D.reads store.new ≡ D.reads store.old }
+    ensures cause { IfErr result (IsBeginCause (D.holds store.old) (D.faults store.old) (D.faults store.new)) }
+    ensures spent { IsSpentWhere (D.holds store.old) result }
+{
+    match open_root(store)? {
+        None => Ok(None),
+        Some(root) => {
+            ask_size(store, &root)?;
+            Ok(Some(root))
+        }
+    }
+}
+
+/// Asks for the size of the checkpoint that the root names, which is broken where it isn't the one that the root
+/// says. Out of memory nothing was asked.
+fn ask_size<D: Store>(store: &mut D, root: &Root) -> Result<(), BeginFault>
+    requires { IfSome (D.holds store.old) (λ content. HasOpenRoot content root.now) }
+    ensures size { OnOk result (IfSome (D.holds store.old) (λ content. HasSize content root.now)) }
+    ensures store { OnlyReads D.Store store.old store.new result }
+    ensures asked { OnOk result (AsksCheckpoint root.now (D.reads store.old) (D.reads store.new)) }
+    ensures reads { (D.reads store.new ≡ D.reads store.old) ⊎ AsksCheckpoint root.now (D.reads store.old) (D.reads store.new) }
+    ensures memory { result ≡ Err WantsMemory → D.reads store.new ≡ D.reads store.old }
+    ensures cause { IfErr result (IsBeginCause (D.holds store.old) (D.faults store.old) (D.faults store.new)) }
+{
+    match store.size(root.checkpoint)? {
+        Some(size) if size == root.size => Ok(()),
+        _ => Err(BeginFault::Damaged {
+            blob: root.checkpoint,
+        }),
+    }
+}
+
+/// The store's root, where it has one. It is broken where it is no root's spelling, and leaves room where its
+/// numbers are below the limits.
+fn open_root<D: Store>(store: &mut D) -> Result<Option<Root>, BeginFault>
     requires { IsSettled (D.moments store.old) }
     ensures found { IfOk result (λ found. IfSome (D.holds store.old) (FindsRoot found)) }
     ensures room { IfOk result (λ found. IfSome found HasRoom) }
@@ -105,7 +154,7 @@ pub(crate) fn open_first(alloc: Global, flush_at: u64) -> Result<Engine, NoMemor
     })
 }
 
-/// The engine of what was saved under the root.
+/// The engine of what was saved under the root, of whose checkpoint the size was asked.
 pub(crate) fn open_saved<D: Store>(
     alloc: Global,
     store: &mut D,
@@ -114,10 +163,12 @@ pub(crate) fn open_saved<D: Store>(
 ) -> Result<Engine, BeginFault>
     requires room { HasRoom root.now }
     requires found { IfSome (D.holds store.old) (λ content. HasOpenRoot content root.now) }
+    requires size { IfSome (D.holds store.old) (λ content. HasSize content root.now) }
     ensures stands { IfOk result (λ engine. (s : State) → HoldsImage (D.holds store.old) s → Stands engine (D.holds store.new) s) }
     ensures goes { IfOk result (λ engine. (content : Content)
         → D.holds store.old ≡ Some content → Goes engine content (D.holds store.new)) }
-    ensures open { OnOk result (IsOpen (D.holds store.old) (D.reads store.old) (D.reads store.new)) }
+    ensures open { OnOk result ((earlier : Option (List ReadRange)) → AsksCheckpoint root.now earlier (D.reads store.old)
+        → IsOpen (D.holds store.old) earlier (D.reads store.new)) }
     ensures next { IfOk result (λ engine. engine.space.next < SPENT_AT) }
     ensures next_blob { IfOk result (λ engine. engine.parts.next_blob < BLOBS_SPENT_AT) }
     ensures flushes { IfOk result (λ engine. engine.parts.flushes < 2 ^ 62) }
@@ -127,7 +178,8 @@ pub(crate) fn open_saved<D: Store>(
     ensures drawn { IfOk result (λ engine. engine.parts.next_blob ≡ root.now.next_blob) }
     ensures goes_on { IfOk result (λ engine. engine.ended ≡ None) }
     ensures store { OnlyReads D.Store store.old store.new result }
-    ensures reads { ReadsAtOpening (D.holds store.old) (D.reads store.old) (D.reads store.new) }
+    ensures reads { (earlier : Option (List ReadRange)) → AsksCheckpoint root.now earlier (D.reads store.old)
+        → ReadsAtOpening (D.holds store.old) earlier (D.reads store.new) }
     ensures cause { IfErr result (IsBeginCause (D.holds store.old) (D.faults store.old) (D.faults store.new)) }
 {
     let checkpoint = open_checkpoint(alloc, store, root)?;
@@ -186,17 +238,18 @@ fn open_checkpoint<D: Store>(
     store: &mut D,
     root: &Root,
 ) -> Result<Checkpoint, BeginFault>
-    requires { IfSome (D.holds store.old) (λ content. HasOpenRoot content root.now) }
+    requires found { IfSome (D.holds store.old) (λ content. HasOpenRoot content root.now) }
+    requires size { IfSome (D.holds store.old) (λ content. HasSize content root.now) }
     ensures saved { IfOk result (λ checkpoint. IfSome (D.holds store.old) (λ content. HasCheckpoint content root.now checkpoint)) }
     ensures rules { IfOk result IsCheckpoint }
     ensures own { IfOk result (MatchesRoot root.now) }
     ensures store { OnlyReads D.Store store.old store.new result }
-    ensures read { OnOk result (ReadsCheckpoint root.now (D.reads store.old) (D.reads store.new)) }
-    ensures reads { (D.reads store.new ≡ D.reads store.old) ⊎ (AsksCheckpoint root.now (D.reads store.old) (D.reads store.new)
-        ⊎ ReadsCheckpoint root.now (D.reads store.old) (D.reads store.new)) }
+    ensures taken { OnOk result (TakesCheckpoint root.now (D.reads store.old) (D.reads store.new)) }
+    ensures reads { (D.reads store.new ≡ D.reads store.old) ⊎ TakesCheckpoint root.now (D.reads store.old) (D.reads store.new) }
     ensures cause { IfErr result (IsBeginCause (D.holds store.old) (D.faults store.old) (D.faults store.new)) }
 {
-    let found = checkpoint_in(alloc, store, root)?;
+    let bytes = named_blob(alloc, store, root)?;
+    let found = read_checkpoint(alloc, &bytes)?;
     own_checkpoint(found, root)
 }
 
@@ -214,50 +267,25 @@ fn own_checkpoint(found: Option<Checkpoint>, root: &Root) -> Result<Checkpoint, 
     }
 }
 
-/// The checkpoint in the blob that the root names. None where it is absent, has another size than the root says,
-/// or isn't the spelling of a checkpoint.
-fn checkpoint_in<D: Store>(
-    alloc: Global,
-    store: &mut D,
-    root: &Root,
-) -> Result<Option<Checkpoint>, Fault>
-    ensures found { IfOk result (λ found. IfSome (D.holds store.old)
-        (λ content. IsFoundIn root.now.size (content.blobs root.now.checkpoint) found)) }
-    ensures rules { IfOk result (λ found. IfSome found IsCheckpoint) }
+/// The bytes of the checkpoint that the root names, all in one read. It is broken where there are fewer then than
+/// its size was. Out of memory nothing was read.
+fn named_blob<D: Store>(alloc: Global, store: &mut D, root: &Root) -> Result<Vec<u8>, BeginFault>
+    requires size { IfSome (D.holds store.old) (λ content. HasSize content root.now) }
+    ensures bytes { IfOk result (λ bytes. IfSome (D.holds store.old)
+        (λ content. content.blobs root.now.checkpoint ≡ Some bytes.items)) }
+    ensures size { IfOk result (λ bytes. length bytes.items ≡ root.now.size) }
     ensures store { OnlyReads D.Store store.old store.new result }
-    ensures read { IfOk result (λ found. OnSome found (ReadsCheckpoint root.now (D.reads store.old) (D.reads store.new))) }
-    ensures reads { (D.reads store.new ≡ D.reads store.old) ⊎ (AsksCheckpoint root.now (D.reads store.old) (D.reads store.new)
-        ⊎ ReadsCheckpoint root.now (D.reads store.old) (D.reads store.new)) }
-    ensures cause { HasFaultCause (D.faults store.old) (D.faults store.new) result }
+    ensures taken { OnOk result (TakesCheckpoint root.now (D.reads store.old) (D.reads store.new)) }
+    ensures reads { (D.reads store.new ≡ D.reads store.old) ⊎ TakesCheckpoint root.now (D.reads store.old) (D.reads store.new) }
+    ensures memory { result ≡ Err WantsMemory → D.reads store.new ≡ D.reads store.old }
+    ensures cause { IfErr result (IsBeginCause (D.holds store.old) (D.faults store.old) (D.faults store.new)) }
 {
-    match named_blob(alloc, store, root)? {
-        Some(bytes) => Ok(read_checkpoint(alloc, &bytes)?),
-        None => Ok(None),
-    }
-}
-
-/// The blob that the root names, whole, in one read, before which its size is asked. None where it is absent or
-/// has another size than the root says.
-fn named_blob<D: Store>(alloc: Global, store: &mut D, root: &Root) -> Result<Option<Vec<u8>>, Fault>
-    ensures bytes { IfOk result (λ found. IfSome found (λ bytes. IfSome (D.holds store.old)
-        (λ content. content.blobs root.now.checkpoint ≡ Some bytes.items))) }
-    ensures size { IfOk result (λ found. IfSome found (λ bytes. length bytes.items ≡ root.now.size)) }
-    ensures none { IfOk result (λ found. IfNone found (IfSome (D.holds store.old)
-        (λ content. IsFoundIn root.now.size (content.blobs root.now.checkpoint) None))) }
-    ensures store { OnlyReads D.Store store.old store.new result }
-    ensures read { IfOk result (λ found. OnSome found (ReadsCheckpoint root.now (D.reads store.old) (D.reads store.new))) }
-    ensures reads { (D.reads store.new ≡ D.reads store.old) ⊎ (AsksCheckpoint root.now (D.reads store.old) (D.reads store.new)
-        ⊎ ReadsCheckpoint root.now (D.reads store.old) (D.reads store.new)) }
-    ensures cause { HasFaultCause (D.faults store.old) (D.faults store.new) result }
-{
-    match store.size(root.checkpoint)? {
-        Some(size) if size == root.size => {}
-        _ => return Ok(None),
-    }
     let mut bytes = vec![in alloc; 0u8; root.size as usize]?;
     match store.read(root.checkpoint, 0, &mut bytes)? {
-        Some(count) if count == bytes.len() => Ok(Some(bytes)),
-        _ => Ok(None),
+        Some(count) if count == bytes.len() => Ok(bytes),
+        _ => Err(BeginFault::Damaged {
+            blob: root.checkpoint,
+        }),
     }
 }
 

@@ -1,11 +1,14 @@
-use Rattle.std.proofs.Common.{◌∙◌, ap, arith}
+use Rattle.std.proofs.Common.{◌∙◌, ap, arith, List}
+use Rattle.std.specs.Prelude.{Option}
+use Rattle.wu_outside.specs.declared.ranges.ReadRange.{ReadRange}
 use Rattle.wu_space.specs.Addresses.{Addresses}
 use Rattle.wu_parts.specs.Contents.{Contents}
 use Rattle.wu_query.proofs.PassedCauses.{err_from}
+use Rattle.wu_engine.specs.Opened.{AsksCheckpoint}
 use Rattle.wu_engine.specs.Opening.{ReadsAtOpening}
 use Rattle.wu_engine.proofs.OpenedIndexes.{index_cause, index_goes, index_numbers, index_open, index_reads, index_stands}
 use Rattle.wu_engine.proofs.OpenedRoots.{room_left}
-use Rattle.wu_engine.proofs.OpenedStates.{reads_checkpoint}
+use Rattle.wu_engine.proofs.OpenedStates.{asked_then_taken, reads_checkpoint}
 use Rattle.wu_engine.proofs.opening.open_saved.Given as given
 use Rattle.wu_engine.proofs.opening.open_saved.Goals as goal
 use Rattle.wu_engine.proofs.opening.open_saved.Goals.{After-open_index}
@@ -43,9 +46,12 @@ returns-clause-goes g c = λ content told.
     c.in_ok-checkpoint.ensures.saved c.in_ok-parts.ensures.opened c.in_ok-engine_of.ensures c.open_index.ensures.store.holds content told
 
 pub returns-clause-open : goal.returns-clause-open
-returns-clause-open g c =
+returns-clause-open g c = λ earlier asked.
+    let reads = g.D.Store.reads in
     index_open c.args.root.now c.in_ok-checkpoint.checkpoint c.open_checkpoint.ensures.store.holds c.requires.found
-    c.in_ok-checkpoint.ensures.saved c.in_ok-parts.ensures.opened (g.D.Store.reads c.args.store.now) c.in_ok-checkpoint.ensures.read
+    c.in_ok-checkpoint.ensures.saved c.in_ok-parts.ensures.opened earlier
+    (asked_then_taken c.args.root.now earlier (reads c.args.store.now) (reads c.open_checkpoint.new.store) asked
+    c.in_ok-checkpoint.ensures.taken)
 
 pub returns-clause-next : goal.returns-clause-next
 returns-clause-next g c =
@@ -102,20 +108,23 @@ returns-clause-store g c = record {
 }
 
 -- once the index was asked for, what was read are the checkpoint and some of its ranges
-reads_then : (g : given.Over) (c : After-open_index g)
-    → ReadsAtOpening (g.D.Store.holds c.args.store.now) (g.D.Store.reads c.args.store.now) (g.D.Store.reads c.open_index.new.store)
-reads_then g c =
+reads_then : (g : given.Over) (c : After-open_index g) (earlier : Option (List ReadRange))
+    → AsksCheckpoint c.args.root.now earlier (g.D.Store.reads c.args.store.now)
+    → ReadsAtOpening (g.D.Store.holds c.args.store.now) earlier (g.D.Store.reads c.open_index.new.store)
+reads_then g c earlier asked =
+    let reads = g.D.Store.reads in
     index_reads c.args.root.now c.in_ok-checkpoint.checkpoint c.open_checkpoint.ensures.store.holds c.requires.found
-    c.in_ok-checkpoint.ensures.saved (g.D.Store.reads c.args.store.now) (g.D.Store.reads c.open_checkpoint.new.store)
-    (g.D.Store.reads c.open_index.new.store) c.in_ok-checkpoint.ensures.read c.open_index.ensures.reads
+    c.in_ok-checkpoint.ensures.saved earlier (reads c.open_checkpoint.new.store) (reads c.open_index.new.store)
+    (asked_then_taken c.args.root.now earlier (reads c.args.store.now) (reads c.open_checkpoint.new.store) asked
+    c.in_ok-checkpoint.ensures.taken) c.open_index.ensures.reads
 
 pub returns-clause-reads : goal.returns-clause-reads
 returns-clause-reads g c = reads_then g (goal.at.returns-clause-reads g c).After-open_index
 
 pub returns-in_err-checkpoint-clause-reads : goal.returns-in_err-checkpoint-clause-reads
-returns-in_err-checkpoint-clause-reads g c =
-    reads_checkpoint c.args.root.now (g.D.Store.holds c.args.store.now) (g.D.Store.reads c.args.store.now)
-    (g.D.Store.reads c.open_checkpoint.new.store) c.requires.found c.open_checkpoint.ensures.reads
+returns-in_err-checkpoint-clause-reads g c = λ earlier asked.
+    reads_checkpoint c.args.root.now (g.D.Store.holds c.args.store.now) earlier (g.D.Store.reads c.args.store.now)
+    (g.D.Store.reads c.open_checkpoint.new.store) c.requires.found asked c.open_checkpoint.ensures.reads
 
 pub returns-in_err-parts-clause-reads : goal.returns-in_err-parts-clause-reads
 returns-in_err-parts-clause-reads g c = reads_then g (goal.at.returns-in_err-parts-clause-reads g c).After-open_index
