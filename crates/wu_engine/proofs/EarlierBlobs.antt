@@ -211,7 +211,7 @@ module _ (tree : FileSystem) (space : Addresses) (files : Records) (checkpoint :
 -- ---- the next number at opening
 
 -- the content has one root
-root_again : (content : Content) (root other : Root) → HasRoot content root → HasRoot content other → root ≡ other
+pub root_again : (content : Content) (root other : Root) → HasRoot content root → HasRoot content other → root ≡ other
 root_again content root other has its =
     let same : Some has.code ≡ Some its.code = sym has.there ∙ its.there in
     let code : has.code ≡ its.code = cc in

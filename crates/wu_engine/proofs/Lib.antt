@@ -52,5 +52,6 @@ pub mod ReindexedTexts
 pub mod LeftImages
 pub mod StoppedSaves
 pub mod EarlierBlobs
+pub mod BegunEngines
 pub mod SavedCrashes
 pub mod NewCheckpoints

@@ -13,16 +13,19 @@ use Rattle.wu_engine.specs.declared.faults.BeginFault.{BeginFault}
 use Rattle.wu_engine.specs.declared.faults.BeginFault.TheVariants.{Damaged, NoMemory}
 use Rattle.wu_engine.specs.Crashes.{IsImageOf}
 use Rattle.wu_engine.specs.Going.{Goes}
+use Rattle.wu_engine.specs.Opened.{IsEngineSaved}
 use Rattle.wu_engine.specs.Opening.{HasRoot, HasSizedCheckpoint, HoldsImage, IsBeginCause, IsOpen, IsSpentWhere, ReadsAtOpening}
 use Rattle.wu_engine.specs.Stands.{Stands}
 
--- Over an image of a state engine and store stand for it. Over whatever the store holds, the engine goes on from there, and the next blob
--- that is drawn is the one that the root says.
+-- Over an image of a state engine and store stand for it. Over whatever the store holds, the engine goes on from there, and where there is
+-- a root the engine is that of the checkpoint that it names, and the next blob that is drawn is the one that the root says.
 pub record GoesOnFrom {D : Type 0} (Store : stores.Ghosts D) (old new : D) (result : Result Engine BeginFault) : Type 0 where
   pub stands : IfOk result (λ engine. (s : State) → HoldsImage (Store.holds old) s → Stands engine (Store.holds new) s)
   pub goes : IfOk result (λ engine. (content : Content) → Store.holds old ≡ Some content → Goes engine content (Store.holds new))
   pub drawn : IfOk result (λ engine. IfSome (Store.holds old) (λ content. (root : Root) → HasRoot content root
       → engine.parts.next_blob ≡ root.next_blob))
+  pub saved : IfOk result (λ engine. IfSome (Store.holds old) (λ content. (root : Root) → HasRoot content root
+      → IsEngineSaved content root engine))
 
 -- The engine has room for a session, no kept block, no frames and no trouble, and memory is full at so many postings.
 pub record IsFresh (full_at : ℕ) (result : Result Engine BeginFault) : Type 0 where

@@ -17,7 +17,7 @@ use Rattle.wu_query.specs.Records.{Records}
 use Rattle.wu_engine.specs.declared.engines.Engine.{Engine}
 use Rattle.wu_engine.specs.declared.faults.BeginFault.{BeginFault}
 use Rattle.wu_engine.specs.declared.faults.BeginFault.TheVariants.{NoMemory, StoreFault, Damaged, Spent}
-use Rattle.wu_engine.specs.Opening.{HasOpenRoot, checkpoint_range, spent_of}
+use Rattle.wu_engine.specs.Opening.{HasCheckpoint, HasOpenRoot, checkpoint_range, spent_of}
 
 -- ---- the root
 
@@ -118,3 +118,9 @@ pub record IsEngineFor (blob : ℕ) (checkpoint : Checkpoint) (parts : Contents)
   pub frames : engine.frames ≡ []
   pub of_blob : engine.checkpoint ≡ blob
   pub goes_on : engine.ended ≡ None
+
+-- the engine is that of the checkpoint that the content's root names
+pub record IsEngineSaved (content : Content) (root : Root) (engine : Engine) : Type 0 where
+  pub checkpoint : Checkpoint
+  pub saved : HasCheckpoint content root checkpoint
+  pub its : IsEngineFor root.checkpoint checkpoint engine.parts engine

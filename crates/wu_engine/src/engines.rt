@@ -65,7 +65,7 @@ impl Engine {
         store: &mut D,
         flush_at: u64,
     ) -> Result<Engine, BeginFault>
-        // The engine goes on from what the store holds.
+        // The engine goes on from what the store holds, and is that of the checkpoint there.
         ensures stands { GoesOnFrom D.Store store.old store.new result }
         // It is one that was just made, with room for a session.
         ensures fresh { IsFresh flush_at result }

@@ -16,7 +16,7 @@ ghost use Rattle.wu_engine.specs.declared.faults.BeginFault.TheVariants.{Damaged
 ghost use Rattle.wu_engine.specs.declared.faults.BeginFault.TheVariants.{NoMemory as WantsMemory};
 ghost use Rattle.wu_engine.specs.Going.{Goes};
 ghost use Rattle.wu_engine.specs.Opened.{AsksCheckpoint, AsksFound, FindsRoot, HasRoom};
-ghost use Rattle.wu_engine.specs.Opened.{IsEngineFor, IsFirstEngine, IsGivenRoot};
+ghost use Rattle.wu_engine.specs.Opened.{IsEngineFor, IsEngineSaved, IsFirstEngine, IsGivenRoot};
 ghost use Rattle.wu_engine.specs.Opened.{IsSettled, MatchesRoot, IsRootFault, IsSpentBy};
 ghost use Rattle.wu_engine.specs.Opened.{TakesCheckpoint, numbered, ranges_recorded};
 ghost use Rattle.wu_engine.specs.Opening.{HasCheckpoint, HasOpenRoot, HasSize, HoldsImage};
@@ -177,6 +177,7 @@ pub(crate) fn open_saved<D: Store>(
     ensures frames { IfOk result (λ engine. engine.frames ≡ []) }
     ensures drawn { IfOk result (λ engine. engine.parts.next_blob ≡ root.now.next_blob) }
     ensures goes_on { IfOk result (λ engine. engine.ended ≡ None) }
+    ensures saved { IfOk result (λ engine. IfSome (D.holds store.old) (λ content. IsEngineSaved content root.now engine)) }
     ensures store { OnlyReads D.Store store.old store.new result }
     ensures reads { (earlier : Option (List ReadRange)) → AsksCheckpoint root.now earlier (D.reads store.old)
         → ReadsAtOpening (D.holds store.old) earlier (D.reads store.new) }

@@ -6,6 +6,7 @@ use Rattle.wu_parts.specs.Contents.{Contents}
 use Rattle.wu_query.proofs.PassedCauses.{err_from}
 use Rattle.wu_engine.specs.Opened.{AsksCheckpoint}
 use Rattle.wu_engine.specs.Opening.{ReadsAtOpening}
+use Rattle.wu_engine.proofs.BegunEngines.{saved_engine}
 use Rattle.wu_engine.proofs.OpenedIndexes.{index_cause, index_goes, index_numbers, index_open, index_reads, index_stands}
 use Rattle.wu_engine.proofs.OpenedRoots.{room_left}
 use Rattle.wu_engine.proofs.OpenedStates.{asked_then_taken, reads_checkpoint}
@@ -96,6 +97,11 @@ returns-clause-drawn g c =
     ap (λ (p : Contents). p.next_blob) c.in_ok-engine_of.ensures.parts_kept
     ∙ (index_numbers c.in_ok-checkpoint.ensures.rules c.in_ok-parts.ensures.opened).next_blob
     ∙ c.in_ok-checkpoint.ensures.own.next_blob
+
+pub returns-clause-saved : goal.returns-clause-saved
+returns-clause-saved g c =
+    saved_engine (g.D.Store.holds c.args.store.now) c.args.root.now c.in_ok-checkpoint.checkpoint c.in_ok-parts.parts
+    c.in_ok-engine_of.field-0 c.in_ok-checkpoint.ensures.saved c.in_ok-engine_of.ensures
 
 pub returns-clause-goes_on : goal.returns-clause-goes_on
 returns-clause-goes_on g c = c.in_ok-engine_of.ensures.goes_on

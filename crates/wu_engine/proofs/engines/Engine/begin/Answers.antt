@@ -5,6 +5,7 @@ use Rattle.wu_query.proofs.PassedCauses.{err_from}
 use Rattle.wu_engine.specs.Opening.{IsBeginCause}
 use Rattle.wu_engine.specs.declared.faults.BeginFault.{BeginFault}
 use Rattle.wu_engine.specs.declared.faults.BeginFault.TheVariants.{NoMemory}
+use Rattle.wu_engine.proofs.BegunEngines.{saved_by_root, saved_without}
 use Rattle.wu_engine.proofs.EarlierBlobs.{drawn_by_root, drawn_without}
 use Rattle.wu_engine.proofs.GoingAtFirst.{first_goes}
 use Rattle.wu_engine.proofs.ImageStates.{first_stands}
@@ -26,6 +27,9 @@ returns-in-Some-clause-stands g c =
       drawn = IfOk-weaker c.open_saved.result _ _
           (λ engine same. drawn_by_root (g.D.Store.holds c.args.store.now) c.in-Some.root engine.parts.next_blob
           (rw (c.sync.ensures.same, c.in-Some.is) at c.in_ok-find_saved.ensures.found) same) c.open_saved.ensures.drawn;
+      saved = IfOk-weaker c.open_saved.result _ _
+          (λ engine its. saved_by_root (g.D.Store.holds c.args.store.now) c.in-Some.root engine
+          (rw (c.sync.ensures.same, c.in-Some.is) at c.in_ok-find_saved.ensures.found) its) (rw same at c.open_saved.ensures.saved);
     }
 
 pub returns-in-Some-clause-fresh : goal.returns-in-Some-clause-fresh
@@ -119,6 +123,7 @@ returns-in_ok-open_first-in-None-clause-stands g c =
           first_goes first c.args.flush_at c.in_ok-open_first-in-None.ensures (holds c.args.store.now)
           (holds c.find_saved.new.store) same content told;
       drawn = drawn_without (holds c.args.store.now) first.parts.next_blob rootless;
+      saved = saved_without (holds c.args.store.now) first rootless;
     }
 
 pub returns-in_ok-open_first-in-None-clause-reads : goal.returns-in_ok-open_first-in-None-clause-reads
