@@ -21,8 +21,8 @@ pub record KeepsIndex (before after : Engine) : Type 0 where
   pub parts : after.parts ≡ record before.parts { kept = after.parts.kept }
 
 -- Her frames' blocks of the terms are asked for in turn, and then only texts of files are read. Where engine and store stand for a state,
--- these are the texts of the files of which a line is shown, each whole; and whatever the answer, nothing is read but what a query of hers
--- may read in that state, in this order.
+-- these are the texts of the files of which a line is shown, or of all files of her view where they are exported, each whole; and whatever
+-- the answer, nothing is read but what a query of hers may read in that state, in this order.
 pub record ReadsForQuestion {D T : Type 0} (Store : stores.Ghosts D) (uid : ℕ) (question : Question) (before after : Engine)
     (old new : D) (result : Result T Trouble) : Type 0 where
   pub done : OnOk result (ReadsForQuery before.tree before.space.ranges uid question before.parts after.parts.kept

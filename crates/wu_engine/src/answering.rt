@@ -25,14 +25,14 @@ impl Engine {
 
     /// Answers a user's query from the index: over her view alone, whatever other files there are.
     /// The store is only read: first those blocks of the query's terms that her frames need and
-    /// that aren't kept, and then, where a find shows lines, the texts of the files of which it
-    /// shows one. Whatever it answers, nothing of the engine changes but which blocks and frames it
-    /// keeps, and the trouble that ended it.
+    /// that aren't kept, and then texts: where a find shows lines, those of the files of which it
+    /// shows one, and for an export those of all files of her view. Whatever it answers, nothing of
+    /// the engine changes but which blocks and frames it keeps, and the trouble that ended it.
     ///
-    /// At most K_MAX lines are asked for; a rank has 1 to RANK_WORDS_MAX words, a phrase a word and
-    /// a window an address at least. The errors are a damaged part or text that was read, a fault
-    /// of the store, and out of memory. Each ends the engine, and a trouble that ended it is
-    /// answered again.
+    /// A find, a rank, `terms`, `top` and `weighed` ask for at most K_MAX; a rank and a `weighed`
+    /// have 1 to RANK_WORDS_MAX words, a phrase a word and a window an address at least. The errors
+    /// are a damaged part or text that was read, a fault of the store, and out of memory. Each ends
+    /// the engine, and a trouble that ended it is answered again.
     pub fn query<D: Store>(&mut self, store: &mut D, query: &Query) -> Result<Answered, Trouble>
         requires { IsSoundAsk query.now.ask }
         // The answer is the written one over her view, and engine and store stand for the same
@@ -48,7 +48,8 @@ impl Engine {
         ensures frames { OnOk result (HasAsked query.now.uid self.old.frames self.new.frames) }
         // The store is only read.
         ensures store { OnlyReads D.Store store.old store.new result }
-        // Only blocks that her frames need are read, and then texts of which a line is shown.
+        // Only blocks that her frames need are read, and then texts of which a line is shown, or
+        // which are exported.
         ensures reads { ReadsForQuestion D.Store query.now.uid (question_of query.now.ask)
             self.old self.new store.old store.new result }
         // Only a blob that this query needs, and that is damaged, is called so.

@@ -54,12 +54,12 @@ impl Engine {
     /// order of their addresses, and indexed anew: its terms are in memory then, and the parts'
     /// blobs are no longer needed. Nothing else is changed.
     ///
-    /// `Damaged` comes exactly where one of these is broken, with the first of them: the root,
-    /// which is blob 0, the checkpoint, the parts from left to right or, by the root's version, the
-    /// texts. `Spent` comes after the root and before the checkpoint, exactly where the root's next
-    /// address is at least SPENT_AT or its next blob at least BLOBS_SPENT_AT, with the first of the
-    /// two that is. Other errors are a fault of the store and out of memory; memory is taken for the
-    /// checkpoint only once its size was asked and is the root's.
+    /// A fault of the store and want of memory end it at any step; memory is taken for the
+    /// checkpoint only once its size was asked and is the root's. Else `Damaged` comes exactly where
+    /// one of these is broken, with the first of them: the root, which is blob 0, the checkpoint,
+    /// the parts from left to right or, by the root's version, the texts. `Spent` comes after the
+    /// root and before the checkpoint, exactly where the root's next address is at least SPENT_AT or
+    /// its next blob at least BLOBS_SPENT_AT, with the first of the two that is.
     pub fn begin<D: Store>(
         alloc: Global,
         store: &mut D,
