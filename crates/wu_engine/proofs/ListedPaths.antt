@@ -1,7 +1,7 @@
 -- The paths of the files of a view, file by file.
 use Rattle.std.proofs.Common.{◌≡◌, ℕ, zero, suc, ◌+◌, ◌<◌, ◌≤◌, List, [], ◌∷◌, ◌++◌, length, drop, refl, ap, ◌∙◌}
 use Rattle.std.proofs.Common.{arith, length-append, sym}
-use Rattle.std.specs.Prelude.{None, Option, Some, option_map, slice_get, unwrap_or}
+use Rattle.std.specs.Prelude.{Option, Some, option_map, slice_get, unwrap_or}
 use Rattle.std.proofs.lemmas.List.{drop_all, drop_more}
 use Rattle.std.proofs.lemmas.Option.{get_or_from_slice_get}
 use Rattle.wu_view.specs.declared.Seen.{Seen}
@@ -11,17 +11,13 @@ use Rattle.wu_space.specs.Addresses.{Ranges}
 use Rattle.wu_frames.specs.declared.Frames.{Frames}
 use Rattle.wu_frames.specs.UserFrames.{CacheMatchesTree, Kept, frames_for}
 use Rattle.wu_frames.proofs.Keeping.{right-found}
-use Rattle.wu_outside.specs.Content.{Content}
 use Rattle.wu_ask.specs.Questions.{ListingPaths}
 use Rattle.wu_ask.specs.declared.Answered.TheVariants.{Paths}
 use Rattle.wu_query.specs.Answer.{answer}
 use Rattle.wu_query.specs.States.{State}
 use Rattle.wu_query.specs.View.{view_of as shown_to}
 use Rattle.wu_query.proofs.AnswerLemmas.{paths_listed}
-use Rattle.wu_engine.specs.declared.engines.Engine.{Engine}
-use Rattle.wu_engine.specs.Going.{Goes}
 use Rattle.wu_engine.specs.Listing.{files_kept, paths_of}
-use Rattle.wu_engine.specs.Stands.{Stands}
 
 pub file_there : (view : List Seen) (place : ℕ) → place < length view → (file : Seen) × (slice_get view place ≡ Some file)
 file_there [] place within = absurd (omega (arith, within))
@@ -67,34 +63,3 @@ pub listed_for : (s : State) (uid : ℕ) (kept : Kept) (fs : FileSystem) → fs 
 listed_for s uid kept fs tree hers =
     paths_listed s uid (files_kept kept uid) (Paths (paths_of (files_kept kept uid)))
     (hers ∙ ap (λ (f : FileSystem). view_of f uid) tree) refl
-
--- ---- an engine that keeps other frames
-
-module _ (engine new : Engine) where
-  -- it stands for the same state
-  pub stands_unasked : (holds : Option Content) (s : State) → new.ended ≡ None → new.tree ≡ engine.tree → new.space ≡ engine.space
-      → new.files.entries ≡ engine.files.entries → new.checkpoint ≡ engine.checkpoint → new.parts ≡ engine.parts
-      → Stands engine holds s → Stands new holds s
-  stands_unasked holds s ended tree space files check parts stands = record {
-    goes_on = ended;
-    index = rw (tree, space, parts, files) stands.index;
-    texts = stands.texts;
-    parts = rw parts stands.parts;
-    job = rw parts stands.job;
-    kept = rw parts stands.kept;
-    check = check ∙ stands.check;
-  }
-
-  -- it goes on, over whatever the store held
-  pub goes_unasked : (start : Content) (holds : Option Content) → new.ended ≡ None → new.space ≡ engine.space
-      → new.files.entries ≡ engine.files.entries → new.checkpoint ≡ engine.checkpoint → new.parts ≡ engine.parts
-      → Goes engine start holds → Goes new start holds
-  goes_unasked start holds ended space files check parts goes = record {
-    goes_on = ended;
-    low = goes.low;
-    high = goes.high;
-    below = rw space goes.below;
-    postings = goes.postings;
-    memory = rw parts goes.memory;
-    sound = rw (files, check, parts) goes.sound;
-  }

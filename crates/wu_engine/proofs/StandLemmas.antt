@@ -37,7 +37,7 @@ use Rattle.wu_engine.proofs.ToldCatalogs.{Tells, held_after, memory_after, same_
 
 -- ---- an engine that is as it was
 
-stands_still : (old new : Engine) (s : State) → new.ended ≡ None → (holds : Option Content) → Stands old holds s
+pub stands_still : (old new : Engine) (s : State) → new.ended ≡ None → (holds : Option Content) → Stands old holds s
     → new.tree ≡ old.tree → new.space ≡ old.space → new.parts ≡ old.parts → new.files.entries ≡ old.files.entries
     → new.checkpoint ≡ old.checkpoint → Stands new holds s
 stands_still old new s ended holds stands tree space parts files check = record {

@@ -1,6 +1,8 @@
 use Rattle.std.proofs.Common.{inl, inr, refl}
 use Rattle.wu_engine.proofs.CallEnds.{had_ended}
-use Rattle.wu_engine.proofs.ListedPaths.{goes_unasked, listed_for, stands_unasked}
+use Rattle.wu_engine.proofs.ListedPaths.{listed_for}
+use Rattle.wu_engine.proofs.QueryStands.{goes_asked}
+use Rattle.wu_engine.proofs.StandLemmas.{stands_still}
 use Rattle.wu_engine.proofs.engines.Engine.ask_paths.Goals as goal
 
 pub keep_view-requires : goal.keep_view-requires
@@ -9,7 +11,7 @@ keep_view-requires c = (c.args.self.now.sound c.in_default.is).frames
 pub returns-in-Ok-clause-answer : goal.returns-in-Ok-clause-answer
 returns-in-Ok-clause-answer c = λ holds s stands. (
   listed_for s c.args.uid c.keep_view.new.kept c.args.self.now.tree stands.index.tree c.in-Ok.ensures.view,
-  stands_unasked c.args.self.now _ holds s refl refl refl refl refl refl stands,
+  stands_still c.args.self.now _ s refl holds stands refl refl refl refl refl,
 )
 
 pub returns-in-Ok-clause-same : goal.returns-in-Ok-clause-same
@@ -23,7 +25,7 @@ returns-in-Err-clause-same c =
 pub returns-in-Ok-clause-ends : goal.returns-in-Ok-clause-ends
 returns-in-Ok-clause-ends c = record {
   goes_on = refl;
-  goes = λ holds start goes. goes_unasked c.args.self.now _ start holds refl refl refl refl refl goes;
+  goes = λ holds start goes. goes_asked c.args.self.now _ start holds holds refl refl refl refl refl refl goes;
   ends = tt;
   again = λ trouble e. had_ended e c.in_default.is;
   cause = tt;
