@@ -79,7 +79,8 @@ impl FrameCache {
         self.prepare(tree, space, uid)?;
         match self.kept(uid) {
             Some(frames) => Ok(frames),
-            None => Err(NoMemory),
+            // They were just prepared.
+            None => unreachable!(),
         }
     }
 

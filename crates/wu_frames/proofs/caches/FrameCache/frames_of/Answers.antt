@@ -2,8 +2,8 @@ use Rattle.std.proofs.Common.{refl, sym}
 use Rattle.wu_frames.proofs.Keeping.{right-found}
 use Rattle.wu_frames.proofs.caches.FrameCache.frames_of.Goals as goal
 
-pub returns-in-Some : goal.returns-in-Some
-returns-in-Some c = (
+pub returns : goal.returns
+returns c = (
   (refl, λ _. tt, (c.prepare.ensures.right, (c.in_ok-prepare.ensures.asked, sym c.in-Some.ensures, c.in_ok-prepare.ensures.entries))),
   record {
     frames = right-found _ _ c.args.uid c.prepare.new.self c.in-Some.frames.now c.prepare.ensures.right c.in-Some.ensures;
