@@ -15,6 +15,7 @@ pub mod PromptAtEnd
 pub mod NamedAtEnd
 pub mod StrayBlobs
 pub mod UnaskedSessions
+pub mod AskedLines
 pub mod UntakenBytes
 pub mod DrawnBlobs
 pub mod PutsAtEnd

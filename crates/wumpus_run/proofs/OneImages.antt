@@ -1,5 +1,5 @@
 -- What a checker calls sound is an image of one state.
-use Rattle.std.proofs.Common.{◌≡◌, refl, ap, ◌∙◌}
+use Rattle.std.proofs.Common.{◌≡◌, ap, ◌∙◌}
 use Rattle.std.specs.Prelude.{Some}
 use Rattle.wu_outside.specs.Content.{Content}
 use Rattle.wu_layout.specs.Layouts.{Layout}

@@ -2,7 +2,7 @@
 use Rattle.std.proofs.Common.{◌≡◌, ℕ, refl, arith}
 use Rattle.std.specs.Prelude.{Option, Result, Ok, Err, IfErr}
 use Rattle.wu_base.specs.declared.troubles.Trouble.{Trouble}
-use Rattle.wu_base.specs.declared.troubles.Trouble.TheVariants.{Damaged, NoMemory, StoreFault}
+use Rattle.wu_base.specs.declared.troubles.Trouble.TheVariants.{Damaged, NoMemory}
 use Rattle.wu_engine.specs.Causes.{HasTroubleCause}
 
 -- out of memory is no fault of the store

@@ -1,5 +1,6 @@
 -- How a session ends, by where it stopped, and what it did then.
 use Rattle.std.specs.Prelude.{◌≡◌, ℕ, Option, None, Some, Result, Ok, Err}
+use Rattle.wu_base.specs.declared.memory.NoMemory.{NoMemory as Unread}
 use Rattle.wu_base.specs.declared.troubles.Trouble.{Trouble}
 use Rattle.wu_base.specs.declared.troubles.Trouble.TheVariants as troubles
 use Rattle.wu_outside.specs.Content.{Content}
@@ -9,6 +10,7 @@ use Rattle.wu_outside.specs.declared.traits.Fault.TheVariants.{Failed}
 use Rattle.wu_outside.specs.declared.traits.Fault.TheVariants as faults
 use Rattle.wu_script.specs.declared.ends.ReadEnd.{ReadEnd}
 use Rattle.wu_script.specs.declared.ends.ReadEnd.TheVariants as ends
+use Rattle.wu_options.specs.declared.command_lines.CommandLine.{CommandLine}
 use Rattle.wu_options.specs.declared.command_lines.Settings.{Settings}
 use Rattle.wumpus_run.specs.declared.statuses.Status.{Status}
 use Rattle.wumpus_run.specs.declared.statuses.Status.TheVariants.{Done, Usage, ReadFault, WriteFault, NoMemory, InputTooLong, StoreFault}
@@ -23,6 +25,12 @@ use Rattle.wu_engine.specs.declared.faults.BeginFault.TheVariants as opening
 use Rattle.wumpus_run.specs.Session.{AnswersAll, AnswersPrefix, AnswersTaken, FromImage, HoldsNothingBack, IsCounted, IsSpent, IsTooLong}
 use Rattle.wumpus_run.specs.Session.{KeepsStrays, LeavesNoStray, Moment, OpensAlone, PutsOnlyDrawn, SavesAll, StaysShut, StaysWithin}
 use Rattle.wumpus_run.specs.Session.{TakesAll}
+
+-- what the arguments ask for, as they were read, or how a session ends that can't begin
+abbrev pub asked_for : Result (Option CommandLine) Unread → Result CommandLine Status
+asked_for (Ok (Some line)) = Ok line
+asked_for (Ok None) = Err Usage
+asked_for (Err unread) = Err NoMemory
 
 -- how a session ends where no item could be read
 abbrev pub status_of : ReadEnd → Status

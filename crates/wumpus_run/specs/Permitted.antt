@@ -41,8 +41,9 @@ AreReadInTurn (m ∷ later) read =
 
 -- Where it stopped, by how it ended: on Done after all items; where reading failed or the input is too long, between two, before all or
 -- after all; where writing failed, in one; out of memory, anywhere; where the store failed, in one before a byte of its reply, or at the
--- opening, before all, or in the last save, after all; without room, before all. The lines of Usage and Damaged say nothing: Usage can't
--- come with settings, nor Damaged over an image (`undamaged` of `run`).
+-- opening, before all, or in the last save, after all; without room, before all. The line of Usage says nothing, and that of Damaged no
+-- more than that no byte of a reply was sent: Usage can't come with settings, nor Damaged over an image (`session` of `run`: `usage`,
+-- `damaged`).
 abbrev pub StopsAt : Status → List Entry → Option Entry → List Entry → List ℕ → Type 0
 StopsAt Done answered under_way later part = (under_way ≡ None) × (later ≡ [])
 StopsAt Usage answered under_way later part = Unit {0}

@@ -1,6 +1,6 @@
 //! An item of the script is answered by the engine.
-ghost use Rattle.std.specs.Prelude.{◌≡◌, ◌⊎◌, ℕ, ◌+◌, ◌<◌, ◌≤◌, ◌^◌, ◌++◌, true, None, Option, Some};
-ghost use Rattle.std.specs.Prelude.{Err, length, IfErr, IfOk, IfSome, OnOk};
+ghost use Rattle.std.specs.Prelude.{◌≡◌, ◌≢◌, ◌⊎◌, ℕ, ◌+◌, ◌<◌, ◌≤◌, ◌^◌, ◌++◌, true, None, Option, Some};
+ghost use Rattle.std.specs.Prelude.{Err, length, IfErr, IfNone, IfOk, IfSome, OnOk};
 ghost use Rattle.wu_base.specs.declared.limits.TheConstants.{ADDRESSES_MAX, TEXT_MAX, WORK_MAX};
 ghost use Rattle.wu_base.specs.declared.troubles.Trouble.TheVariants.{Damaged};
 ghost use Rattle.wu_outside.specs.Content.{Content};
@@ -80,8 +80,10 @@ pub fn answer<D: Store>(
 
 /// The user who asks for her paths, where the item is that.
 fn lister_of(item: &Item) -> Option<Uid>
-    ensures { IfSome result (λ uid.
+    ensures asks { IfSome result (λ uid.
         item.now ≡ Item.Command (Command.Ask (record { uid = uid; ask = Ask.Paths }))) }
+    ensures other { IfNone result ((uid : ℕ)
+        → item.now ≢ Item.Command (Command.Ask (record { uid = uid; ask = Ask.Paths }))) }
 {
     match item {
         Item::Command(

@@ -31,7 +31,8 @@ ghost use Rattle.wumpus_run.specs.Demo.{IfDemo, IsShown};
 ghost use Rattle.wumpus_run.specs.Kept.{AddsDrawnFor, KeepsDrawn, KeepsEitherSave};
 ghost use Rattle.wumpus_run.specs.Kept.{KeepsRootsCheckpoint, TouchesNoStray};
 ghost use Rattle.wumpus_run.specs.Permitted.{AnswersInTurn, ReadsPermitted};
-ghost use Rattle.wumpus_run.specs.Ended.{CallsBroken, IsSession, KeepsBlobs, OpensOnly, status_of};
+ghost use Rattle.wumpus_run.specs.Ended.{asked_for, CallsBroken, IsSession, KeepsBlobs, OpensOnly};
+ghost use Rattle.wumpus_run.specs.Ended.{status_of};
 ghost use Rattle.wumpus_run.specs.Ended.{status_of_fault, status_of_opening, status_of_saving};
 ghost use Rattle.wumpus_run.specs.Ended.{status_of_trouble};
 ghost use Rattle.wumpus_run.specs.Session.{Completes, FromImage, HasRoom, IsCounted, IsUsage};
@@ -56,10 +57,12 @@ use wu_script::{Item, ReadEnd, Reader};
 
 /// Runs a session: reads the script from the source as it comes, and writes the reply to each of its
 /// items to the sink before it reads the next. `words` are the command-line arguments, those after
-/// the program's name; they say how many bytes the input may have. The source is one that has not
-/// given its end. The session goes on from what the store holds, from the root directory alone where that is
-/// nothing, and its end is a save; a session that ends otherwise saves nothing more. What is said of the output is
-/// said where source, sink and store tell what they have, and the store holds an image of a state.
+/// the program's name. They ask for such a session, and say how many bytes its input may have and
+/// from how many postings in memory on these are flushed; or for a demonstration; or for a check of
+/// the store. The source is one that has not given its end. The session goes on from what the store
+/// holds, from the root directory alone where that is nothing, and its end is a save; a session that
+/// ends otherwise saves nothing more. What is said of the output is said where source, sink and
+/// store tell what they have, and the store holds an image of a state.
 pub fn run<I: Source, O: Sink, D: Store>(
     alloc: Global,
     words: &[&str],
@@ -92,13 +95,14 @@ pub fn run<I: Source, O: Sink, D: Store>(
     ensures turns { FromImage (D.holds store.old) (λ s. AnswersInTurn s result (settings_of (texts_of words.now))
         (moment I.Source O.Sink D.Store source.old sink.old store.old)
         (moment I.Source O.Sink D.Store source.new sink.new store.new)) }
-    // Of the store this was read, in turn: at opening the root's checkpoint and the fronts of its parts, each
-    // once, and then item by item for a query blocks of its terms where her files are and then the texts of
-    // which a line is shown, from the first one on, each once, and for background work blocks of its terms;
-    // for any of them it may be fewer, or none. That is so for the items that were answered, whose replies
-    // the sink gained, and for the next one, where it was under way; for a later one nothing was read. A
-    // session that ended at its opening, before it took or wrote a byte, read nothing but some of what an
-    // opening reads.
+    // Of the store this was read, in turn: at opening the root's checkpoint and the fronts of its
+    // parts, each once, and then item by item: for a query blocks of its terms where her files are,
+    // and then, from the first one on and each once, the texts of which a line is shown, or for an
+    // export those of all files of her view; for background work blocks of its terms; for any of
+    // them it may be fewer, or none. That is so for the items that were answered, whose replies the
+    // sink gained, and for the next one, where it was under way; for a later one nothing was read.
+    // A session that ended at its opening, before it took or wrote a byte, read nothing but some of
+    // what an opening reads.
     ensures permitted { FromImage (D.holds store.old) (λ s. ReadsPermitted s result (settings_of (texts_of words.now))
         (moment I.Source O.Sink D.Store source.old sink.old store.old)
         (moment I.Source O.Sink D.Store source.new sink.new store.new)
@@ -130,12 +134,22 @@ pub fn run<I: Source, O: Sink, D: Store>(
         → FromImage (D.holds store.old) (λ s. HasRoom s → Completes result (settings_of (texts_of words.now))
         (moment I.Source O.Sink D.Store source.old sink.old store.old)) }
 {
-    match read_command_line(alloc, words) {
-        Ok(Some(CommandLine::Run(settings))) => answer_script(alloc, settings, source, sink, store),
-        Ok(Some(CommandLine::Demo(number))) => demo(alloc, number, sink),
-        Ok(Some(CommandLine::Check)) => check_store(alloc, sink, store),
-        Ok(None) => Status::Usage,
-        Err(NoMemory) => Status::NoMemory,
+    match asked_for(read_command_line(alloc, words)) {
+        Ok(CommandLine::Run(settings)) => answer_script(alloc, settings, source, sink, store),
+        Ok(CommandLine::Demo(number)) => demo(alloc, number, sink),
+        Ok(CommandLine::Check) => check_store(alloc, sink, store),
+        Err(status) => status,
+    }
+}
+
+/// What the arguments ask for, as they were read, or how a session ends that can't begin.
+fn asked_for(read: Result<Option<CommandLine>, NoMemory>) -> Result<CommandLine, Status>
+    ensures { result ≡ asked_for read }
+{
+    match read {
+        Ok(Some(line)) => Ok(line),
+        Ok(None) => Err(Status::Usage),
+        Err(NoMemory) => Err(Status::NoMemory),
     }
 }
 

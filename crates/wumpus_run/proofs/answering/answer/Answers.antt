@@ -16,10 +16,10 @@ use Rattle.wumpus_run.proofs.answering.answer.Goals as goal
 
 pub returns-in-Some-clause-answer : goal.returns-in-Some-clause-answer
 returns-in-Some-clause-answer g c = λ s stands.
-    rw c.in-Some.ensures (c.begin_paths.ensures.answer (g.D.Store.holds c.args.store.now) s stands)
+    rw c.in-Some.ensures.asks (c.begin_paths.ensures.answer (g.D.Store.holds c.args.store.now) s stands)
 
 pub returns-in-Some-clause-named : goal.returns-in-Some-clause-named
-returns-in-Some-clause-named g c = λ s stands. on_any_ok _ c.begin_paths.result (rw c.in-Some.ensures (λ start first none. none))
+returns-in-Some-clause-named g c = λ s stands. on_any_ok _ c.begin_paths.result (rw c.in-Some.ensures.asks (λ start first none. none))
 
 pub returns-in-Some-clause-strays : goal.returns-in-Some-clause-strays
 returns-in-Some-clause-strays g c =
@@ -35,15 +35,15 @@ returns-in-Some-clause-permitted g c = λ s stands.
 
 pub returns-in-Some-clause-survives : goal.returns-in-Some-clause-survives
 returns-in-Some-clause-survives g c =
-    keeps_saves c.args.item _ c.in-Some.ensures (λ s. refl) (λ s last stands saved. still_left stands saved refl)
+    keeps_saves c.args.item _ c.in-Some.ensures.asks (λ s. refl) (λ s last stands saved. still_left stands saved refl)
 
 pub returns-in-Some-clause-durable : goal.returns-in-Some-clause-durable
 returns-in-Some-clause-durable g c =
-    saves_as_before c.args.item _ c.in-Some.ensures (λ s. refl) (λ s last stands saved. still_left stands saved refl)
+    saves_as_before c.args.item _ c.in-Some.ensures.asks (λ s. refl) (λ s last stands saved. still_left stands saved refl)
     c.begin_paths.result
 
 pub returns-in-Some-clause-unasked : goal.returns-in-Some-clause-unasked
-returns-in-Some-clause-unasked g c = rw c.in-Some.ensures (λ e. absurd (cc e))
+returns-in-Some-clause-unasked g c = rw c.in-Some.ensures.asks (λ e. absurd (cc e))
 
 pub returns-in-Some-clause-earlier : goal.returns-in-Some-clause-earlier
 returns-in-Some-clause-earlier g c = λ start goes. earlier_same c.args.engine.now.parts.next_blob (g.D.Store.holds c.args.store.now)
@@ -59,7 +59,7 @@ returns-in-Some-clause-rooted g c =
     (ap (λ (contents : Contents). contents.next_blob) c.begin_paths.ensures.parts))
 
 pub returns-in-Some-clause-leaves : goal.returns-in-Some-clause-leaves
-returns-in-Some-clause-leaves g c = rw c.in-Some.ensures c.begin_paths.ensures.leaves
+returns-in-Some-clause-leaves g c = rw c.in-Some.ensures.asks c.begin_paths.ensures.leaves
 
 pub returns-in-Some-clause-goes : goal.returns-in-Some-clause-goes
 returns-in-Some-clause-goes g c = c.begin_paths.ensures.goes (g.D.Store.holds c.args.store.now)
