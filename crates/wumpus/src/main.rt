@@ -1,10 +1,11 @@
 //! The program `wumpus`: a session over standard input and output.
 #![tactic(auto)]
 
-ghost use Rattle.std.specs.Prelude.{◌≡◌, map, string_bytes, IfErr, IfOk};
+ghost use Rattle.std.specs.Prelude.{◌≡◌, ◌≤◌, false, map, string_bytes, IfErr, IfOk, None};
 ghost use Rattle.std.specs.Process.{exit_status};
 ghost use Rattle.wu_options.specs.CommandLines.{command_line_of, texts_of};
-ghost use Rattle.wumpus_run.specs.Session.{IsUsage, code_of};
+ghost use Rattle.wumpus_run.specs.Ended.{IsSession};
+ghost use Rattle.wumpus_run.specs.Session.{IsUsage, code_of, moment, settings_of};
 
 mod arguments;
 mod messages;
@@ -18,14 +19,14 @@ use std::fs::File;
 use std::io::IsTerminal;
 use std::process::ExitCode;
 use wu_options::{CommandLine, read_command_line};
-use wu_outside::{DirStore, Failure, StdIn, StdOut};
+use wu_outside::{DirStore, Failure, Sink, Source, StdIn, StdOut, Store};
 use wumpus_run::{Status, run};
 
 /// The folder of the store, in the folder that the program runs in.
 const FOLDER: &str = "wumpus-store";
 
 fn main(rt: HostRuntime) -> ExitCode {
-    run_to_end(&rt)
+    run_to_end(&rt, arguments(&rt))
 }
 
 /// How a session ended, and for a person at a terminal which file of the store failed and why.
@@ -47,9 +48,20 @@ impl Ended {
     }
 }
 
-/// Runs a session, prints what ended it, and tells how the process ends.
-fn run_to_end(rt: &HostRuntime) -> ExitCode {
-    let ended = session(rt, arguments(rt));
+/// Runs the session that the arguments ask for, tells what ended it, and how the process ends.
+fn run_to_end(rt: &HostRuntime, found: Result<Vec<String>, Status>) -> ExitCode
+    ensures codes { exit_status result ≤ 8 }
+    ensures unread { IfErr found (λ status. exit_status result ≡ code_of status) }
+    ensures usage { IfOk found (λ arguments. exit_status result ≡ code_of Status.Usage
+        → command_line_of (map string_bytes arguments.items) ≡ None) }
+{
+    tell(rt, &session(rt, found))
+}
+
+/// Prints what ended the session. The process ends with the code of its status.
+fn tell(rt: &HostRuntime, ended: &Ended) -> ExitCode
+    ensures { exit_status result ≡ code_of ended.now.status }
+{
     if ended.status != Status::Done {
         let message = Message {
             status: ended.status,
@@ -92,24 +104,84 @@ fn session_of(rt: &HostRuntime, arguments: &[String]) -> Ended
     // Where the standard input is closed, this folder, which can't be read as a file, takes its descriptor, and no file of the store
     // does, if "/" can be opened for reading.
     let _stand_in = File::open(rt, "/");
-    let (Ok(mut source), Ok(mut sink)) = (StdIn::new(rt.stdin()), StdOut::new(rt.stdout())) else {
+    let (Ok(mut source), Ok(sink)) = (StdIn::new(rt.stdin()), StdOut::new(rt.stdout())) else {
         return Ended::plainly(Status::NoMemory);
     };
-    let Ok(mut store) = DirStore::new(rt, FOLDER) else {
+    let Ok(store) = DirStore::new(rt, FOLDER) else {
         return Ended::plainly(Status::NoMemory);
     };
-    let words = texts.as_slice();
+    let ran = run_over(rt, texts.as_slice(), &mut source, sink, store);
+    ended_with(rt, ran.status, ran.store.last_failure())
+}
+
+/// A session that was run: how it ended, and its sink and its store.
+#[derive(Drop)]
+struct Ran<O, D> {
+    status: Status,
+    sink: O,
+    store: D,
+}
+
+/// Runs the session that the words ask for, over these objects. Where they ask for a check and a
+/// person is there, she is shown how far it is.
+fn run_over<I: Source, O: Sink + Drop, D: Store + Drop>(
+    rt: &HostRuntime,
+    words: &[&str],
+    source: &mut I,
+    sink: O,
+    store: D,
+) -> Ran<O, D>
+    requires { I.ended source.old ≡ false }
+    ensures usage { IsUsage result.status (command_line_of (texts_of words.now)) }
+    ensures session { IsSession result.status (settings_of (texts_of words.now))
+        (moment I.Source O.Sink D.Store source.old sink store)
+        (moment I.Source O.Sink D.Store source.new result.sink result.store) }
+{
     if is_watched(rt, words) {
-        let mut store = WatchedStore::new(rt, store);
-        let mut sink = ErasingSink { rt, sink };
-        let status = run(rt.alloc(), words, &mut source, &mut sink, &mut store);
-        erase(rt);
-        let reason = reason_for(rt, status, store.inner().last_failure());
-        return Ended { status, reason };
+        return run_watched(rt, words, source, sink, store);
     }
-    let status = run(rt.alloc(), words, &mut source, &mut sink, &mut store);
-    let reason = reason_for(rt, status, store.last_failure());
-    Ended { status, reason }
+    let (mut sink, mut store) = (sink, store);
+    let status = run(rt.alloc(), words, source, &mut sink, &mut store);
+    Ran {
+        status,
+        sink,
+        store,
+    }
+}
+
+/// The same with a line on standard error that tells how far the check is, and is erased at its end.
+fn run_watched<I: Source, O: Sink + Drop, D: Store + Drop>(
+    rt: &HostRuntime,
+    words: &[&str],
+    source: &mut I,
+    sink: O,
+    store: D,
+) -> Ran<O, D>
+    requires { I.ended source.old ≡ false }
+    ensures usage { IsUsage result.status (command_line_of (texts_of words.now)) }
+    ensures session { IsSession result.status (settings_of (texts_of words.now))
+        (moment I.Source O.Sink D.Store source.old sink store)
+        (moment I.Source O.Sink D.Store source.new result.sink result.store) }
+{
+    let mut sink = ErasingSink { rt, sink };
+    let mut store = WatchedStore::new(rt, store);
+    let status = run(rt.alloc(), words, source, &mut sink, &mut store);
+    erase(rt);
+    Ran {
+        status,
+        sink: sink.sink,
+        store: store.into_inner(),
+    }
+}
+
+/// How the session ended, with the reason for a person who is there.
+fn ended_with(rt: &HostRuntime, status: Status, failure: Option<&Failure>) -> Ended
+    ensures { result.status ≡ status }
+{
+    Ended {
+        status,
+        reason: reason_for(rt, status, failure),
+    }
 }
 
 /// Whether the words ask for a check and a person is there to see how far it is.

@@ -48,10 +48,10 @@ impl<'a, D> WatchedStore<'a, D> {
     }
 
     /// The store itself.
-    pub fn inner(&self) -> &D
-        ensures { result.now ≡ self.now.store }
+    pub fn into_inner(self) -> D
+        ensures { result ≡ self.entry.store }
     {
-        &self.store
+        self.store
     }
 
     /// Learns from the root's bytes which blob is the checkpoint's.

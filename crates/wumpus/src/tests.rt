@@ -7,7 +7,7 @@ use wumpus_run::Status;
 
 #[test]
 fn without_arguments_the_program_ends_with_status_1(rt: HostRuntime) {
-    assert_eq!(rt; run_to_end(&rt), ExitCode::from(1));
+    assert_eq!(rt; run_to_end(&rt, arguments(&rt)), ExitCode::from(1));
 }
 
 /// A process with these arguments, its name the first.
