@@ -34,8 +34,9 @@ pub record Run : Type 0 where
   pub old : Moments
   pub new : Moments
 
--- What the contract of `run` says of it in the clauses `turns`, `crash`, `durable` and `acknowledged`; and that its store tells alike what
--- it holds and what a crash leaves. A run that is killed is like one whose source, sink and store fail from then on.
+-- What the contract of `run` says of it in the clause `turns`, and in the parts `crash`, `durable` and `acknowledged` of the clause
+-- `survives`; and that its store tells alike what it holds and what a crash leaves. A run that is killed is taken to be one whose source,
+-- sink and store fail from then on: nothing here proves that it is.
 pub record IsRun (run : Run) : Type 0 where
   pub given : run.before.left ≡ Some run.input
   pub turns : FromImage run.before.holds (λ s. AnswersInTurn s run.status (Some run.told) run.before run.now)

@@ -36,9 +36,11 @@ pub fn her_view_is_moved_by_what_she_may_see()
         ≡ view_of s uid }
 {}
 
-/// What an administrator may rely on of a closed directory: whatever happens below it, to files,
-/// directories, links, texts, modes, owners and access lists, leaves the view of each user as it
-/// was to whom it is closed.
+/// What an administrator may rely on of a closed directory: links that are made, moved or removed
+/// in it or below it leave the view of each user as it was to whom it is closed, and so does a
+/// text, a mode, an owner or an access list of a node to which no link leads her from an open
+/// directory. A file below it that has another link, in a directory that is open for her, she may
+/// see through that one.
 pub fn events_below_a_closed_directory()
     ensures { (flush_at uid : ℕ) (s : State) (event : Event) (text : List ℕ)
         → IsState s → IsEvent event → IsBelowClosed s.tree uid event
