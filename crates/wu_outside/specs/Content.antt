@@ -20,6 +20,11 @@ with_blob blob bytes content = record content { blobs = λ other. cond (other ==
 abbrev pub with_root : List ℕ → Content → Content
 with_root bytes content = record content { root = Some bytes }
 
+-- the blob is there, and has so many bytes
+abbrev pub HasSize : ℕ → Option (List ℕ) → Type 0
+HasSize size None = ⊥
+HasSize size (Some bytes) = length bytes ≡ size
+
 -- a read from a place on fills a buffer as far as the blob goes; where the blob is absent there is nothing to count
 abbrev pub ReadsFrom : Option (List ℕ) → ℕ → Option ℕ → List ℕ → Type 0
 ReadsFrom None place count buffer = count ≡ None

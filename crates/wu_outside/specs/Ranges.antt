@@ -6,6 +6,10 @@ use Rattle.wu_outside.specs.declared.ranges.ReadRange.{ReadRange}
 abbrev pub asked_size : ℕ → ReadRange
 asked_size blob = record { blob = blob; at = 0; len = 0 }
 
+-- what is noted where the root is read: a range of blob 0, as long as the buffer
+abbrev pub root_range : ℕ → ReadRange
+root_range len = record { blob = 0; at = 0; len = len }
+
 -- a read that isn't refused adds its range
 abbrev pub AddsRange : {T E : Type 0} → Option (List ReadRange) → Option (List ReadRange) → ReadRange → Result T E → Type 0
 AddsRange old new range r = MatchResult r (λ _. new ≡ option_map (λ ranges. ranges ++ range ∷ []) old) (λ _. new ≡ old)

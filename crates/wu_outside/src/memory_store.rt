@@ -4,7 +4,7 @@ ghost use Rattle.wu_outside.specs.Content.{ReadsFrom, GivesRoot};
 ghost use Rattle.wu_outside.specs.Crash.{LeftNow};
 ghost use Rattle.wu_outside.specs.Faults.{HasFaultCause};
 ghost use Rattle.wu_outside.specs.Logs.{LoggedStore, moments_of, content_of, crash_log};
-ghost use Rattle.wu_outside.specs.Ranges.{asked_size};
+ghost use Rattle.wu_outside.specs.Ranges.{asked_size, root_range};
 ghost use Rattle.wu_outside.specs.Schedule.{is_failing, after_call};
 ghost use Rattle.wu_outside.specs.declared.logs.Entry.TheVariants.{HasPut, HasRemoved, HasSetRoot, HasSynced};
 ghost use Rattle.wu_outside.specs.declared.traits.Fault.TheVariants.{Failed as CallFailed};
@@ -72,7 +72,8 @@ impl MemStore {
         })
     }
 
-    /// The ranges read so far, and one without bytes for each size that was asked, in order.
+    /// The ranges read so far, one of blob 0 for each read of the root, and one without bytes for
+    /// each size that was asked, in order.
     pub fn reads(&self) -> &[ReadRange]
         ensures { result.now ≡ self.now.ranges }
     {
@@ -163,14 +164,17 @@ impl Store for MemStore {
 
     fn root(&mut self, buf: &mut [u8]) -> Result<Option<usize>, Fault>
         ensures bytes { IfOk result (λ count. GivesRoot (content_of self.old.log).root count buf.new) }
+        ensures noted { OnOk result (self.new.ranges ≡ self.old.ranges ++ root_range (length buf.new) ∷ []) }
+        ensures refused { OnErr result (self.new.ranges ≡ self.old.ranges) }
         ensures log { self.new.log ≡ self.old.log }
-        ensures ranges { self.new.ranges ≡ self.old.ranges }
         ensures failed { is_failing self.old.schedule ≡ true → result ≡ Err CallFailed }
         ensures counted { self.new.schedule ≡ after_call self.old.schedule }
         ensures cause { HasFaultCause self.old.schedule.faults self.new.schedule.faults result }
     {
         self.schedule.pass()?;
-        Ok(read_root(find_root(self.log.as_slice()), buf))
+        let count = read_root(find_root(self.log.as_slice()), buf);
+        self.ranges.push(ReadRange::of_root(buf.len() as u64))?;
+        Ok(count)
     }
 
     fn set_root(&mut self, bytes: &[u8]) -> Result<(), Fault>

@@ -39,7 +39,8 @@ impl PlainStore {
         }
     }
 
-    /// The ranges read so far, and one without bytes for each size that was asked, in order.
+    /// The ranges read so far, one of blob 0 for each read of the root, and one without bytes for
+    /// each size that was asked, in order.
     pub fn reads(&self) -> &[ReadRange]
         ensures { result.now ≡ self.now.ranges }
     {
@@ -81,7 +82,9 @@ impl Store for PlainStore {
     }
 
     fn root(&mut self, buf: &mut [u8]) -> Result<Option<usize>, Fault> {
-        Ok(read_root(self.root.as_ref(), buf))
+        let count = read_root(self.root.as_ref(), buf);
+        self.ranges.push(ReadRange::of_root(buf.len() as u64))?;
+        Ok(count)
     }
 
     fn set_root(&mut self, bytes: &[u8]) -> Result<(), Fault> {

@@ -5,7 +5,7 @@ ghost use Rattle.wu_outside.specs.Content.{Content, with_blob, with_root, ReadsF
 ghost use Rattle.wu_outside.specs.Crash.{Moments, Put, Remove, SetRoot, Tries, try_change, settle, AreAlike};
 ghost use Rattle.wu_outside.specs.Ends.{GivesEnd};
 ghost use Rattle.wu_outside.specs.Faults.{HasCause, HasFaultCause, HasWriteCause};
-ghost use Rattle.wu_outside.specs.Ranges.{AddsRange, asked_size};
+ghost use Rattle.wu_outside.specs.Ranges.{AddsRange, asked_size, root_range};
 ghost use Rattle.wu_outside.specs.declared.ranges.ReadRange.{ReadRange};
 ghost use Rattle.wu_outside.specs.declared.traits.Fault.TheVariants.{NoMemory as WantsMemory};
 
@@ -139,7 +139,7 @@ pub trait Store {
     ghost holds: { Self → Option Content };
 
     /// The ranges read so far, and the blobs of which the size was asked, each as a range without
-    /// bytes at place 0, in order, where the store tells them.
+    /// bytes at place 0, in order, where the store tells them. A read of the root is one of blob 0.
     ghost reads: { Self → Option (List ReadRange) };
 
     /// What a crash may leave now, and might have left at each moment since the store was made,
@@ -190,12 +190,12 @@ pub trait Store {
         ensures cause { HasFaultCause (faults self.old) (faults self.new) result };
 
     /// The whole length of the root in bytes, its first bytes put into `buf`. None is answered
-    /// exactly where there is none. `Failed` comes only where the count of faults rose; on every
-    /// other answer the count is as it was.
+    /// exactly where there is none. It is noted as a range of blob 0, as long as `buf`. `Failed`
+    /// comes only where the count of faults rose; on every other answer the count is as it was.
     fn root(&mut self, buf: &mut [u8]) -> Result<Option<usize>, Fault>
         ensures bytes { IfOk result (λ count. IfSome (holds self.old) (λ content. GivesRoot content.root count buf.new)) }
         ensures same { holds self.new ≡ holds self.old }
-        ensures unread { reads self.new ≡ reads self.old }
+        ensures noted { AddsRange (reads self.old) (reads self.new) (root_range (length buf.new)) result }
         ensures still { moments self.new ≡ moments self.old }
         ensures cause { HasFaultCause (faults self.old) (faults self.new) result };
 
