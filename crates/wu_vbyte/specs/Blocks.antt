@@ -61,7 +61,7 @@ pub record HasPart (before byte part : ℕ) : Type 0 where
   pub small : before < 128 → part ≡ byte % 128
   pub large : 128 ≤ before → part ≡ byte % 128 * 128
 
--- how many numbers end at a byte
+-- how many numbers end at a byte, whatever the byte before it is
 pub record HasEnd (before byte ended : ℕ) : Type 0 where
   pub one : byte < 128 → ended ≡ 1
   pub none : 128 ≤ byte → ended ≡ 0

@@ -104,6 +104,7 @@ pub fn decode_short(
     for at in 0..bytes.len() {
         total += u64::from(parts[at]);
         addresses[taken] = total;
+        // `ends` has only 0 and 1. The remainder changes nothing: by it the sum is seen to stay small.
         taken += usize::from(ends[at] % 2);
     }
     let mut found = Vec::with_capacity(alloc, count)?;
