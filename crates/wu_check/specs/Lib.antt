@@ -6,8 +6,7 @@ pub mod Wrong
 pub mod Terms
 -- the state of which a store holds an image
 pub mod Imaged
--- blobs that are read whole, and lists that are read from a part's bytes
-pub mod Reading
+-- lists that are read from a part's bytes
 pub mod Indexing
 -- the lists of a part side by side by address, at the places of the addresses of some ranges
 pub mod Places

@@ -1,8 +1,8 @@
 //! Blobs that are read whole.
 ghost use Rattle.std.specs.Prelude.{◌≡◌, Some, IfNone, IfOk, IfSome, length};
+ghost use Rattle.wu_outside.specs.Content.{HasSize};
 ghost use Rattle.wu_outside.specs.Reading.{OnlyReads};
 ghost use Rattle.wu_outside.specs.Faults.{HasFaultCause};
-ghost use Rattle.wu_check.specs.Reading.{HasSize};
 
 use std::alloc::Global;
 use wu_outside::{Fault, Store};

@@ -8,7 +8,7 @@ use Rattle.wu_base.specs.declared.addresses.PartRec.{PartRec}
 use Rattle.wu_base.specs.declared.troubles.Trouble.{Trouble}
 use Rattle.wu_base.specs.declared.troubles.Trouble.TheVariants.{Damaged, NoMemory}
 use Rattle.wu_base.proofs.EachLemmas.{each-append, each-map}
-use Rattle.wu_outside.specs.Content.{Content}
+use Rattle.wu_outside.specs.Content.{Content, HasSize}
 use Rattle.wu_outside.specs.Faults.{Rose}
 use Rattle.wu_outside.specs.Ranges.{asked_size}
 use Rattle.wu_outside.specs.declared.ranges.ReadRange.{ReadRange}
@@ -23,7 +23,7 @@ use Rattle.wu_part.proofs.LawLemmas.{one_directory}
 use Rattle.wu_job.specs.Steps.{adds}
 use Rattle.wu_parts.specs.Loading.{AreOpened, HasDirectory, HasNoDirectory, IsFirstBroken, IsFrontOf, IsLoadCause, IsOpened}
 use Rattle.wu_parts.specs.Loading.{ReadsFronts, WasHeaderRead, header_range}
-use Rattle.wu_parts.specs.OpenedParts.{ArePartsOpened, CannotBeOpened, HasBytesAt, HasSize, IsDirectoryIn, IsDirectoryRead}
+use Rattle.wu_parts.specs.OpenedParts.{ArePartsOpened, CannotBeOpened, HasBytesAt, IsDirectoryIn, IsDirectoryRead}
 use Rattle.wu_parts.specs.OpenedParts.{IsPartOpened, TellsLength, front_ranges}
 use Rattle.wu_parts.specs.StoredParts.{directories_of}
 use Rattle.wu_parts.specs.declared.writing.StoredPart.{StoredPart}

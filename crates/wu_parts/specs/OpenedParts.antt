@@ -2,7 +2,7 @@
 use Rattle.std.specs.Prelude.{◌≡◌, ◌⊎◌, ⊤, ℕ, ◌+◌, ◌<◌, ◌≤◌, List, [], ◌∷◌, length, take, drop, Option, None, Some, IfSome}
 use Rattle.std.specs.List.{AllByRecursion}
 use Rattle.wu_base.specs.declared.addresses.PartRec.{PartRec}
-use Rattle.wu_outside.specs.Content.{Content}
+use Rattle.wu_outside.specs.Content.{Content, HasSize}
 use Rattle.wu_outside.specs.Ranges.{asked_size}
 use Rattle.wu_outside.specs.declared.ranges.ReadRange.{ReadRange}
 use Rattle.wu_part.specs.declared.headers.TheConstants.{HEADER_LEN}
@@ -25,11 +25,6 @@ EndsBefore None place count = ⊤
 EndsBefore (Some bytes) place count = length (drop place bytes) < count
 
 -- ---- the header
-
--- the blob is there, and has so many bytes
-abbrev pub HasSize : ℕ → Option (List ℕ) → Type 0
-HasSize size None = ⊥
-HasSize size (Some bytes) = length bytes ≡ size
 
 -- the blob is there, and its header tells the length of its directory
 abbrev pub TellsLength : ℕ → Option (List ℕ) → Type 0

@@ -1,6 +1,7 @@
 //! Opening of the parts that a store has.
 ghost use Rattle.std.specs.Prelude.{◌≡◌, ◌+◌, ◌<◌, ◌≤◌, ◌^◌, [], ◌∷◌, Some, IfErr, IfNone, IfOk, IfSome, MatchBool, MatchOption, OnErr, OnOk, length};
 ghost use Rattle.wu_base.specs.declared.troubles.Trouble.TheVariants.{Damaged as DamagedBlob};
+ghost use Rattle.wu_outside.specs.Content.{HasSize};
 ghost use Rattle.wu_outside.specs.Faults.{HasFaultCause};
 ghost use Rattle.wu_outside.specs.Ranges.{AddsRange, asked_size};
 ghost use Rattle.wu_part.specs.Parts.{IsRecorded};
@@ -8,7 +9,7 @@ ghost use Rattle.wu_part.specs.declared.headers.TheConstants.{HEADER_LEN as head
 ghost use Rattle.wu_job.specs.Steps.{adds};
 ghost use Rattle.wu_parts.specs.Causes.{IsStoreCause};
 ghost use Rattle.wu_parts.specs.Loading.{IsLoadCause, ReadsFronts, WasHeaderRead, directory_range, end_of as end_of_records, header_range};
-ghost use Rattle.wu_parts.specs.OpenedParts.{ArePartsOpened, CannotBeOpened, EndsBefore, HasBytesAt, HasSize, IsDirectoryIn, IsDirectoryRead, IsHeaderOf, IsMemoryCause, IsPartOpened};
+ghost use Rattle.wu_parts.specs.OpenedParts.{ArePartsOpened, CannotBeOpened, EndsBefore, HasBytesAt, IsDirectoryIn, IsDirectoryRead, IsHeaderOf, IsMemoryCause, IsPartOpened};
 
 use crate::writing::StoredPart;
 use std::alloc::Global;
