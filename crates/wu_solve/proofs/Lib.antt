@@ -32,3 +32,5 @@ pub mod FramesMet
 pub mod FrameCounts
 pub mod OneTerm
 pub mod NeededTerms
+pub mod NearSpans
+pub mod SpansWhole

@@ -31,11 +31,11 @@ to_among [] a has = absurd has
 to_among (x ∷ xs) a (inl here) = or_left _ _ (eq-eqb x a here)
 to_among (x ∷ xs) a (inr more) = or_right _ _ (to_among xs a more)
 
-abbrev Rises : List ℕ → Type 0
+abbrev pub Rises : List ℕ → Type 0
 Rises [] = Unit {0}
 Rises (x ∷ xs) = ((a : ℕ) → Among xs a → x < a) × Rises xs
 
-rises : (xs : List ℕ) → IsStrictlyIncreasing xs → Rises xs
+pub rises : (xs : List ℕ) → IsStrictlyIncreasing xs → Rises xs
 rises [] up = tt
 rises (x ∷ xs) up = (
   λ a has.

@@ -103,7 +103,7 @@ hits_in region stands n x has = ((hits_listed region stands n).sound x has).0
 
 -- over frames that lie apart
 
-ascending_append : (xs ys : List Extent) → IsAscending xs → IsAscending ys → ((x y : Extent) → Has xs x → Has ys y → IsBefore x y)
+pub ascending_append : (xs ys : List Extent) → IsAscending xs → IsAscending ys → ((x y : Extent) → Has xs x → Has ys y → IsBefore x y)
     → IsAscending (xs ++ ys)
 ascending_append [] ys xup yup apart = yup
 ascending_append (x ∷ xs) ys xup yup apart = (

@@ -70,7 +70,7 @@ both_of_each left right lists f =
     subst (λ (xs : List Extent). AreInnermost (IsCover (map (moved f.start) ys) (map (moved f.start) zs)) (map (moved f.start) xs)) is
     (covers_moved f.start ys zs (covers ys zs) inner)
 
-followed_by_each : (left right : Region) (lists : List TermList) (f : Range)
+pub followed_by_each : (left right : Region) (lists : List TermList) (f : Range)
     → AreInnermost (IsSpan (frame_hits left lists f) (frame_hits right lists f)) (frame_hits (Both FollowedBy left right) lists f)
 followed_by_each left right lists f =
     let stands = stands_by lists f.start in

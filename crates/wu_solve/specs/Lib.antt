@@ -12,3 +12,4 @@ pub mod Prefixes
 pub mod Merging
 pub mod FirstExtents
 pub mod Windows
+pub mod Spanning

@@ -1,8 +1,11 @@
 -- What an operator makes of two lists of extents.
-use Rattle.std.specs.Prelude.{◌≡◌, ◌⊎◌, ◌<◌, Bool, true, not, min, max, List, filter, if◌then◌else◌}
+use Rattle.std.specs.Prelude.{◌≡◌, ◌⊎◌, ◌<◌, Bool, true, false, not, min, max, List, filter, Option, None, Some, if◌then◌else◌}
 use Rattle.std.specs.List.{list_any}
 use Rattle.wu_base.specs.declared.addresses.Extent.{Extent}
 use Rattle.wu_gcl.specs.Extents.{holds}
+use Rattle.wu_gcl.specs.declared.expressions.Op.{Op}
+use Rattle.wu_gcl.specs.declared.expressions.Op.TheVariants.{Containing, ContainedIn, NotContaining, NotContainedIn, OneOf, BothOf}
+use Rattle.wu_gcl.specs.declared.expressions.Op.TheVariants.{FollowedBy}
 use Rattle.wu_solve.specs.Listing.{IsAscending, Has}
 
 abbrev pub is_wanted : Bool → Bool → Bool
@@ -15,6 +18,16 @@ holding wanted extents others = filter (λ x. is_wanted wanted (list_any (λ y. 
 -- the extents that one of the others holds, or those that none does
 abbrev pub held : Bool → List Extent → List Extent → List Extent
 held wanted extents others = filter (λ x. is_wanted wanted (list_any (λ y. holds y x) others)) extents
+
+-- what an operator keeps that only tests the extents of its left operand
+abbrev pub tested : Op → List Extent → List Extent → Option (List Extent)
+tested Containing left right = Some (holding true left right)
+tested ContainedIn left right = Some (held true left right)
+tested NotContaining left right = Some (holding false left right)
+tested NotContainedIn left right = Some (held false left right)
+tested OneOf left right = None
+tested BothOf left right = None
+tested FollowedBy left right = None
 
 -- the least extent that holds both
 abbrev pub cover : Extent → Extent → Extent

@@ -1,5 +1,5 @@
 -- The extents of an expression over frames of the address space.
-use Rattle.std.specs.Prelude.{ℕ, ◌+◌, ◌^◌, ◌≤◌, List, map}
+use Rattle.std.specs.Prelude.{◌≡◌, ℕ, ◌+◌, ◌^◌, ◌≤◌, List, map}
 use Rattle.std.specs.List.{flat_map}
 use Rattle.wu_base.specs.declared.addresses.Extent.{Extent}
 use Rattle.wu_base.specs.declared.addresses.Range.{Range}
@@ -20,6 +20,10 @@ frame_hits region lists frame = map (moved frame.start) (hits region (stands_by 
 -- frame by frame, so that no operator sees two frames at once
 abbrev pub frames_hits : Region → List TermList → List Range → List Extent
 frames_hits region lists frames = flat_map (frame_hits region lists) frames
+
+-- they are those of some expression
+abbrev pub AreHits : List TermList → List Range → List Extent → Type 0
+AreHits lists frames xs = (region : Region) × (xs ≡ frames_hits region lists frames)
 
 -- ends at or before 2 ^ 47
 abbrev pub IsFrame : Range → Type 0

@@ -20,6 +20,7 @@ mod needed;
 mod operands;
 mod overlaps;
 mod solving;
+mod spanning;
 mod windows;
 
 pub use counting::{Counts, count, count_apart, only_term};

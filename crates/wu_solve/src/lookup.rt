@@ -1,5 +1,5 @@
 //! Looking up terms and addresses.
-ghost use Rattle.std.specs.Prelude.{◌≡◌, ◌<◌, length, slice_index, ◌≤◌, ℕ, filter, map, nat_le, MatchOption};
+ghost use Rattle.std.specs.Prelude.{◌≡◌, ◌<◌, drop, length, slice_index, ◌≤◌, ℕ, filter, map, nat_le, MatchOption};
 ghost use Rattle.std.specs.List.{AllByRecursion};
 ghost use Rattle.std.specs.List.Sorted.{IsStrictlySortedBy, IsStrictlyIncreasing};
 ghost use Rattle.std.specs.Cmp.Lexicographic.{slice_cmp};
@@ -14,7 +14,7 @@ const NEAR: usize = 4;
 /// How many addresses in front are below the bound. The first few are looked at one by one: of a
 /// frequent term it is mostly one of these.
 #[inline(always)]
-fn below(addresses: &[u64], bound: u64) -> usize
+pub fn below(addresses: &[u64], bound: u64) -> usize
     requires { IsStrictlyIncreasing addresses.now }
     ensures { EndsBelow addresses.now bound result }
 {
@@ -52,6 +52,15 @@ pub fn addresses_from(addresses: &[u64], bound: u64) -> &[u64]
     ensures { result.now ≡ filter (λ a. nat_le bound a) addresses.now }
 {
     &addresses[below(addresses, bound)..]
+}
+
+/// What is left behind so many.
+#[inline(always)]
+pub fn behind(addresses: &[u64], count: usize) -> &[u64]
+    requires { count ≤ length addresses.now }
+    ensures { result.now ≡ drop count addresses.now }
+{
+    &addresses[count..]
 }
 
 /// The place of the term's list, in lists that ascend by their terms' bytes; None exactly where the

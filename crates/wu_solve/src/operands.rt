@@ -14,7 +14,7 @@ ghost use Rattle.wu_base.specs.Ranges.{AreApart};
 
 use crate::framing::{end_of, frame_at};
 use crate::lookup::{
-    Remembered, address_at, addresses_from, addresses_of, has_address, is_at, rarest,
+    Remembered, address_at, addresses_from, addresses_of, behind, has_address, is_at, rarest,
 };
 use crate::overlaps::{Stretch, farther, known_words, overlaps};
 use std::alloc::Global;
@@ -52,15 +52,6 @@ fn runs_in(
         }
     }
     Ok(found)
-}
-
-/// What is left behind so many.
-#[inline(always)]
-fn behind(addresses: &[u64], count: usize) -> &[u64]
-    requires { count ≤ length addresses.now }
-    ensures { result.now ≡ drop count addresses.now }
-{
-    &addresses[count..]
 }
 
 /// Puts the extents around the addresses in front that start before the end of the first one's frame,

@@ -10,18 +10,18 @@ use Rattle.wu_solve.proofs.solving.+solve_at_once.Goals as goal
 
 pub combine_with_windows-requires-clause-ascend : goal.combine_with_windows-requires-clause-ascend
 combine_with_windows-requires-clause-ascend t c =
-    rw (c.deref-in-Some.ensures.value, c.in_ok-left-in-Both.ensures)
-    (frames_ascend (region_of c.deref.result.now) c.args.lists.now c.args.frames.now c.requires.apart)
+    rw (c.deref-in-Some-2.ensures.value, c.in_ok-left-in-Both.ensures)
+    (frames_ascend (region_of c.deref-in-Some.result.now) c.args.lists.now c.args.frames.now c.requires.apart)
 
 pub combine-requires-clause-left_ascends : goal.combine-requires-clause-left_ascends
 combine-requires-clause-left_ascends t c =
-    rw (c.deref-in-Both-3.ensures.value, c.in_ok-left-in-Both.ensures)
-    (frames_ascend (region_of c.deref.result.now) c.args.lists.now c.args.frames.now c.requires.apart)
+    rw (c.deref-in-Both-5.ensures.value, c.in_ok-left-in-Both-2.ensures)
+    (frames_ascend (region_of c.deref-in-Both-2.result.now) c.args.lists.now c.args.frames.now c.requires.apart)
 
 pub combine-requires-clause-right_ascends : goal.combine-requires-clause-right_ascends
 combine-requires-clause-right_ascends t c =
-    rw (c.deref-in-Both-4.ensures.value, c.in_ok-right-in-Both.ensures)
-    (frames_ascend (region_of c.deref-in-Both-2.result.now) c.args.lists.now c.args.frames.now c.requires.apart)
+    rw (c.deref-in-Both-6.ensures.value, c.in_ok-right-in-Both-2.ensures)
+    (frames_ascend (region_of c.deref-in-Both-4.result.now) c.args.lists.now c.args.frames.now c.requires.apart)
 
 pub returns-in-File : goal.returns-in-File
 returns-in-File t c =
