@@ -32,5 +32,8 @@ pub mod FramesMet
 pub mod FrameCounts
 pub mod OneTerm
 pub mod NeededTerms
+pub mod OneSpan
 pub mod NearSpans
+pub mod NearPlaces
 pub mod SpansWhole
+pub mod NearHits

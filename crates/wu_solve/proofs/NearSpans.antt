@@ -1,21 +1,22 @@
 -- The spans that begin near extents, by walking the starts and the extents side by side.
-use Rattle.std.proofs.Common.{◌≡◌, ℕ, zero, suc, ◌+◌, ◌-◌, ◌<◌, ◌≤◌, Bool, true, false, cond, ◌⊎◌, List, [], ◌∷◌, ◌++◌, drop, refl, sym, ap, ◌∙◌, subst, inl, inr}
-use Rattle.std.proofs.Common.{arith, length, get_or, lt-ltb, ltb-true, ltb-false, leb-true, leb-false, le-leb, nat_lt, nat_le, filter}
+use Rattle.std.proofs.Common.{◌≡◌, ℕ, zero, suc, ◌+◌, ◌-◌, ◌<◌, ◌≤◌, Bool, true, false, cond, ◌⊎◌, List, [], ◌∷◌, ◌++◌, drop, refl, sym}
+use Rattle.std.proofs.Common.{ap, ◌∙◌, inl, inr}
+use Rattle.std.proofs.Common.{arith, length, get_or, lt-ltb, ltb-true, leb-true, leb-false, le-leb, nat_lt, nat_le, filter}
 use Rattle.std.specs.Prelude.{Option, None, Some}
 use Rattle.std.specs.List.Sorted.{IsStrictlyIncreasing}
 use Rattle.std.proofs.lemmas.Bool.{false_from_ne_true}
 use Rattle.std.proofs.lemmas.List.{at_drop_all, drop_more}
-use Rattle.std.proofs.lemmas.List.Kept.{IsStrictlyIncreasing-filter}
 use Rattle.wu_base.specs.declared.addresses.Extent.{Extent}
 use Rattle.wu_base.specs.declared.addresses.Range.{Range}
 use Rattle.wu_solve.specs.Addresses.{EndsBelow}
 use Rattle.wu_solve.specs.Frames.{lies_in_one}
 use Rattle.wu_solve.specs.Listing.{IsBefore, IsAscending, Has}
-use Rattle.wu_solve.specs.Spanning.{IsSpanOf, IsNear, AreSpansNear, first_below, ends_after, span_to, first_span, listed, spans_to, starts_behind}
+use Rattle.wu_solve.specs.Spanning.{IsSpanOf, IsNear, AreSpansNear, first_below, ends_after, first_span, listed, spans_to, beyond}
 use Rattle.wu_solve.specs.Spanning.{from_last}
 use Rattle.wu_solve.proofs.Numbers.{from_bound, increasing_rest}
+use Rattle.wu_solve.proofs.OneSpan.{first_sound, first_complete, first_or_later, with_first, is_behind, earlier}
 use Rattle.wu_solve.proofs.Operators.{filter_ascending}
-use Rattle.wu_solve.proofs.Phrases.{Among, Rises, from_among, to_among, from_kept, to_kept, rises}
+use Rattle.wu_solve.proofs.Phrases.{Rises, from_among, to_among, rises}
 use Rattle.wu_solve.proofs.Results.{ascending_append}
 use Rattle.wu_solve.proofs.Sets.{holds_means, all_has, has_left, has_right, has_either, from_filter, to_filter}
 
@@ -24,141 +25,7 @@ use Rattle.wu_solve.proofs.Sets.{holds_means, all_has, has_left, has_right, has_
 abbrev pub near : List Extent → List ℕ → List ℕ → List Extent
 near [] starts ends = []
 near (x ∷ xs) starts ends =
-    spans_to x.end (from_last x.start starts) ends ++ near xs (starts_behind x.end (from_last x.start starts)) ends
-
--- ---- one start
-
--- the first of the ends behind an address
-first_end : (start end : ℕ) (ends es : List ℕ) → IsStrictlyIncreasing ends → ends_after start ends ≡ end ∷ es
-    → Among ends end × (start < end) × ((a : ℕ) → Among ends a → start < a → end ≤ a)
-first_end start end ends es up is =
-    let here : Among (ends_after start ends) end = subst (λ (zs : List ℕ). Among zs end) (sym is) (inl refl) in
-    let k = from_kept (λ a. nat_le (start + 1) a) ends end here in
-    let low = leb-true (start + 1) end k.1 in
-    let ascends : Rises (end ∷ es) = subst Rises is (rises (ends_after start ends)
-    (IsStrictlyIncreasing-filter (λ a. nat_le (start + 1) a) ends up)) in (
-      k.0,
-      omega (arith, low),
-      λ a has less.
-          let there : Among (end ∷ es) a = subst (λ (zs : List ℕ). Among zs a) is
-          (to_kept (λ a. nat_le (start + 1) a) ends a has (le-leb (start + 1) a (omega (arith, less)))) in
-          elim there [
-            | inl same ↦ omega (arith, same)
-            | inr more ↦ let far = ascends.0 a more in omega (arith, far)
-          ],
-    )
-
--- where the first of the starts after it isn't below an end, none is
-no_start_before : (start end : ℕ) (later : List ℕ) → Rises (start ∷ later) → first_below end later ≡ false
-    → (a : ℕ) → Among (start ∷ later) a → start < a → end ≤ a
-no_start_before start end later up none a (inl here) less = absurd (omega (arith, here, less))
-no_start_before start end [] up none a (inr more) less = absurd more
-no_start_before start end (first ∷ more) up none a (inr (inl here)) less =
-    let far = ltb-false first end none in omega (arith, far, here)
-no_start_before start end (first ∷ more) up none a (inr (inr has)) less =
-    let far = ltb-false first end none in
-    let behind_first = up.1.0 a has in
-    omega (arith, far, behind_first)
-
-module _ (start : ℕ) (later ends : List ℕ) (up : Rises (start ∷ later)) (ends_up : IsStrictlyIncreasing ends) where
-  chosen : (end : ℕ) (es : List ℕ) (x : Extent) (test : Bool) → ends_after start ends ≡ end ∷ es → first_below end later ≡ test
-      → cond test None (Some (record { start = start; end = end })) ≡ Some x → IsSpanOf (start ∷ later) ends x × (x.start ≡ start)
-  chosen end es x true is none same = absurd (none_some same)
-    where
-      none_some : None ≡ Some x → ⊥
-      none_some e = cc
-  chosen end es x false is none same =
-      let e : Extent = record { start = start; end = end } in
-      let x_is : e ≡ x = cc in
-      let f = first_end start end ends es ends_up is in
-      let spans : IsSpanOf (start ∷ later) ends e = record {
-        from_start = to_among (start ∷ later) start (inl refl);
-        to_end = to_among ends end f.0;
-        forward = f.1;
-        no_start = λ a has less. no_start_before start end later up none a (from_among (start ∷ later) a has) less;
-        no_end = λ a has less. f.2 a (from_among ends a has) less;
-      } in
-      subst (λ (y : Extent). IsSpanOf (start ∷ later) ends y × (y.start ≡ start)) x_is (spans, refl)
-
-  sound_by : (es : List ℕ) (x : Extent) → ends_after start ends ≡ es → span_to start later es ≡ Some x
-      → IsSpanOf (start ∷ later) ends x × (x.start ≡ start)
-  sound_by [] x is same = absurd (none_some same)
-    where
-      none_some : None ≡ Some x → ⊥
-      none_some e = cc
-  sound_by (end ∷ es) x is same = chosen end es x (first_below end later) is refl same
-
-  first_sound : (x : Extent) → first_span (start ∷ later) ends ≡ Some x → IsSpanOf (start ∷ later) ends x × (x.start ≡ start)
-  first_sound x same = sound_by (ends_after start ends) x refl same
-
-  none_before : (x : Extent) (after : List ℕ) → Rises (start ∷ after)
-      → ((a : ℕ) → Among (start ∷ after) a → start < a → x.end ≤ a) → first_below x.end after ≡ false
-  none_before x [] rises_so none = refl
-  none_before x (a ∷ more) rises_so none = false_from_ne_true (nat_lt a x.end) (λ is.
-      let low = ltb-true a x.end is in
-      let far = rises_so.0 a (inl refl) in
-      let over = none a (inr (inl refl)) far in
-      omega (arith, low, over))
-
-  complete_by : (es : List ℕ) (x : Extent) → ends_after start ends ≡ es → IsSpanOf (start ∷ later) ends x → x.start ≡ start
-      → span_to start later es ≡ Some x
-  complete_by [] x is span begins =
-      let low = span.forward in
-      let there = to_kept (λ a. nat_le (start + 1) a) ends x.end (from_among ends x.end span.to_end)
-      (le-leb (start + 1) x.end (omega (arith, low, begins))) in
-      absurd (subst (λ (zs : List ℕ). Among zs x.end) is there)
-  complete_by (end ∷ es) x is span begins =
-      let f = first_end start end ends es ends_up is in
-      let low = span.forward in
-      let one = f.2 x.end (from_among ends x.end span.to_end) (omega (arith, low, begins)) in
-      let other = span.no_end end (to_among ends end f.0) (omega (arith, f.1, begins)) in
-      let same : end ≡ x.end = omega (arith, one, other) in
-      let none : first_below x.end later ≡ false = none_before x later up
-      (λ a has less. span.no_start a (to_among (start ∷ later) a has) (omega (arith, less, begins))) in
-      rw (same, none) (ap (λ (n : ℕ). let y : Extent = record { start = n; end = x.end } in Some y) (sym begins))
-
-  first_complete : (x : Extent) → IsSpanOf (start ∷ later) ends x → x.start ≡ start → first_span (start ∷ later) ends ≡ Some x
-  first_complete x span begins = complete_by (ends_after start ends) x refl span begins
-
--- ---- starts that are left out in front
-
-module _ (start : ℕ) (later ends : List ℕ) (up : Rises (start ∷ later)) (x : Extent) where
-  -- a span begins at the first start, or it is one of the others
-  first_or_later : IsSpanOf (start ∷ later) ends x → (x.start ≡ start) ⊎ IsSpanOf later ends x
-  first_or_later span = elim (from_among (start ∷ later) x.start span.from_start) [
-    | inl here ↦ inl (sym here)
-    | inr more ↦ inr (record {
-      from_start = to_among later x.start more;
-      to_end = span.to_end;
-      forward = span.forward;
-      no_start = λ a has less. span.no_start a (to_among (start ∷ later) a (inr (from_among later a has))) less;
-      no_end = span.no_end;
-    })
-  ]
-
-  with_first : IsSpanOf later ends x → IsSpanOf (start ∷ later) ends x
-  with_first span =
-      let behind_first = up.0 x.start (from_among later x.start span.from_start) in
-      record {
-        from_start = to_among (start ∷ later) x.start (inr (from_among later x.start span.from_start));
-        to_end = span.to_end;
-        forward = span.forward;
-        no_start = λ a has less. elim (from_among (start ∷ later) a has) [
-          | inl here ↦ absurd (omega (arith, here, less, behind_first))
-          | inr more ↦ span.no_start a (to_among later a more) less
-        ];
-        no_end = span.no_end;
-      }
-
-  is_behind : IsSpanOf later ends x → start < x.start
-  is_behind span = up.0 x.start (from_among later x.start span.from_start)
-
--- of two spans the one that begins later ends later
-earlier : (ends starts : List ℕ) (x y : Extent) → IsSpanOf starts ends x → IsSpanOf starts ends y → x.start < y.start → IsBefore x y
-earlier ends starts x y one other less =
-    let over = one.no_start y.start other.from_start less in
-    let far = other.forward in
-    record { starts = less; ends = omega (arith, over, far) }
+    spans_to x.end (from_last x.start starts) ends ++ near xs (beyond x.end (from_last x.start starts)) ends
 
 -- ---- from the last start below a bound on
 
@@ -211,38 +78,38 @@ module _ (ends : List ℕ) (x : Extent) where
   of_last bound (start ∷ later) up span =
       of_last_by bound start later (first_below bound later) up (of_last bound later up.1) span
 
--- ---- the starts behind a bound
+-- ---- the starts beyond a bound
 
-behind_rises_by : (bound start : ℕ) (later : List ℕ) (test : Bool) → Rises (start ∷ later) → Rises (starts_behind bound later)
-    → Rises (cond test (starts_behind bound later) (start ∷ later))
-behind_rises_by bound start later true up more = more
-behind_rises_by bound start later false up more = up
+beyond_rises_by : (bound start : ℕ) (later : List ℕ) (test : Bool) → Rises (start ∷ later) → Rises (beyond bound later)
+    → Rises (cond test (beyond bound later) (start ∷ later))
+beyond_rises_by bound start later true up more = more
+beyond_rises_by bound start later false up more = up
 
-behind_rises : (bound : ℕ) (starts : List ℕ) → Rises starts → Rises (starts_behind bound starts)
-behind_rises bound [] up = tt
-behind_rises bound (start ∷ later) up = behind_rises_by bound start later (nat_le start bound) up (behind_rises bound later up.1)
+beyond_rises : (bound : ℕ) (starts : List ℕ) → Rises starts → Rises (beyond bound starts)
+beyond_rises bound [] up = tt
+beyond_rises bound (start ∷ later) up = beyond_rises_by bound start later (nat_le start bound) up (beyond_rises bound later up.1)
 
 module _ (ends : List ℕ) (x : Extent) where
-  kept_behind_by : (bound start : ℕ) (later : List ℕ) (test : Bool) → nat_le start bound ≡ test → Rises (start ∷ later) → bound < x.start
-      → (IsSpanOf later ends x → IsSpanOf (starts_behind bound later) ends x) → IsSpanOf (start ∷ later) ends x
-      → IsSpanOf (cond test (starts_behind bound later) (start ∷ later)) ends x
-  kept_behind_by bound start later false is up far more span = span
-  kept_behind_by bound start later true is up far more span = elim (first_or_later start later ends up x span) [
+  kept_beyond_by : (bound start : ℕ) (later : List ℕ) (test : Bool) → nat_le start bound ≡ test → Rises (start ∷ later) → bound < x.start
+      → (IsSpanOf later ends x → IsSpanOf (beyond bound later) ends x) → IsSpanOf (start ∷ later) ends x
+      → IsSpanOf (cond test (beyond bound later) (start ∷ later)) ends x
+  kept_beyond_by bound start later false is up far more span = span
+  kept_beyond_by bound start later true is up far more span = elim (first_or_later start later ends up x span) [
     | inl here ↦ let low = leb-true start bound is in absurd (omega (arith, low, here, far))
     | inr rest ↦ more rest
   ]
 
-  kept_behind : (bound : ℕ) (starts : List ℕ) → Rises starts → bound < x.start → IsSpanOf starts ends x
-      → IsSpanOf (starts_behind bound starts) ends x
-  kept_behind bound [] up far span = span
-  kept_behind bound (start ∷ later) up far span =
-      kept_behind_by bound start later (nat_le start bound) refl up far (kept_behind bound later up.1 far) span
+  kept_beyond : (bound : ℕ) (starts : List ℕ) → Rises starts → bound < x.start → IsSpanOf starts ends x
+      → IsSpanOf (beyond bound starts) ends x
+  kept_beyond bound [] up far span = span
+  kept_beyond bound (start ∷ later) up far span =
+      kept_beyond_by bound start later (nat_le start bound) refl up far (kept_beyond bound later up.1 far) span
 
-  of_behind_by : (bound start : ℕ) (later : List ℕ) (test : Bool) → nat_le start bound ≡ test → Rises (start ∷ later)
-      → (IsSpanOf (starts_behind bound later) ends x → IsSpanOf later ends x × (bound < x.start))
-      → IsSpanOf (cond test (starts_behind bound later) (start ∷ later)) ends x → IsSpanOf (start ∷ later) ends x × (bound < x.start)
-  of_behind_by bound start later true is up more span = let m = more span in (with_first start later ends up x m.0, m.1)
-  of_behind_by bound start later false is up more span = (
+  of_beyond_by : (bound start : ℕ) (later : List ℕ) (test : Bool) → nat_le start bound ≡ test → Rises (start ∷ later)
+      → (IsSpanOf (beyond bound later) ends x → IsSpanOf later ends x × (bound < x.start))
+      → IsSpanOf (cond test (beyond bound later) (start ∷ later)) ends x → IsSpanOf (start ∷ later) ends x × (bound < x.start)
+  of_beyond_by bound start later true is up more span = let m = more span in (with_first start later ends up x m.0, m.1)
+  of_beyond_by bound start later false is up more span = (
     span,
     let over = leb-false start bound is in
         elim (first_or_later start later ends up x span) [
@@ -251,11 +118,11 @@ module _ (ends : List ℕ) (x : Extent) where
         ],
   )
 
-  of_behind : (bound : ℕ) (starts : List ℕ) → Rises starts → IsSpanOf (starts_behind bound starts) ends x
+  of_beyond : (bound : ℕ) (starts : List ℕ) → Rises starts → IsSpanOf (beyond bound starts) ends x
       → IsSpanOf starts ends x × (bound < x.start)
-  of_behind bound [] up span = absurd (from_among [] x.start span.from_start)
-  of_behind bound (start ∷ later) up span =
-      of_behind_by bound start later (nat_le start bound) refl up (of_behind bound later up.1) span
+  of_beyond bound [] up span = absurd (from_among [] x.start span.from_start)
+  of_beyond bound (start ∷ later) up span =
+      of_beyond_by bound start later (nat_le start bound) refl up (of_beyond bound later up.1) span
 
 -- ---- the spans that begin at a bound or before it
 
@@ -336,11 +203,12 @@ module _ (ends : List ℕ) (ends_up : IsStrictlyIncreasing ends) where
   near_sound [] starts y up has = absurd has
   near_sound (x ∷ xs) starts y up has =
       let last_up = last_rises x.start starts up in
-      elim (has_either (spans_to x.end (from_last x.start starts) ends) (near xs (starts_behind x.end (from_last x.start starts)) ends) y has) [
+      elim (has_either (spans_to x.end (from_last x.start starts) ends) (near xs (beyond x.end (from_last x.start starts)) ends) y has) [
         | inl here ↦ of_last ends y x.start starts up (spans_sound x.end ends ends_up (from_last x.start starts) y last_up here).0
         | inr more ↦
-            let s = near_sound xs (starts_behind x.end (from_last x.start starts)) y (behind_rises x.end (from_last x.start starts) last_up) more in
-            of_last ends y x.start starts up (of_behind ends y x.end (from_last x.start starts) last_up s).0
+            let rising = beyond_rises x.end (from_last x.start starts) last_up in
+            let s = near_sound xs (beyond x.end (from_last x.start starts)) y rising more in
+            of_last ends y x.start starts up (of_beyond ends y x.end (from_last x.start starts) last_up s).0
       ]
 
   near_ascends : (xs : List Extent) (starts : List ℕ) → Rises starts → IsAscending (near xs starts ends)
@@ -348,11 +216,11 @@ module _ (ends : List ℕ) (ends_up : IsStrictlyIncreasing ends) where
   near_ascends (x ∷ xs) starts up =
       let rest = from_last x.start starts in
       let last_up = last_rises x.start starts up in
-      let far_up = behind_rises x.end rest last_up in
-      ascending_append (spans_to x.end rest ends) (near xs (starts_behind x.end rest) ends) (spans_ascend x.end ends ends_up rest last_up)
-      (near_ascends xs (starts_behind x.end rest) far_up) (λ y z one other.
+      let far_up = beyond_rises x.end rest last_up in
+      ascending_append (spans_to x.end rest ends) (near xs (beyond x.end rest) ends) (spans_ascend x.end ends ends_up rest last_up)
+      (near_ascends xs (beyond x.end rest) far_up) (λ y z one other.
       let f = spans_sound x.end ends ends_up rest y last_up one in
-      let s = of_behind ends z x.end rest last_up (near_sound xs (starts_behind x.end rest) z far_up other) in
+      let s = of_beyond ends z x.end rest last_up (near_sound xs (beyond x.end rest) z far_up other) in
       earlier ends rest y z f.0 s.0 (omega (arith, f.1, s.1)))
 
   -- what stands near an extent doesn't end before it, nor start behind it
@@ -366,19 +234,19 @@ module _ (ends : List ℕ) (ends_up : IsStrictlyIncreasing ends) where
   near_complete (first ∷ xs) starts x y up ascends ordered has close span =
       let rest = from_last first.start starts in
       let last_up = last_rises first.start starts up in
-      let far_up = behind_rises first.end rest last_up in
+      let far_up = beyond_rises first.end rest last_up in
       let met = reaches x y (ordered x has) span.forward close in
       elim (kept_last ends y first.start starts up span) [
         | inl here ↦ elim (beside y.start first.end) [
-          | inl low ↦ has_left (spans_to first.end rest ends) (near xs (starts_behind first.end rest) ends) y
+          | inl low ↦ has_left (spans_to first.end rest ends) (near xs (beyond first.end rest) ends) y
               (spans_complete first.end ends ends_up rest y last_up here low)
           | inr high ↦ elim has [
             | inl same ↦
                 let ends_alike : first.end ≡ x.end = ap (λ (e : Extent). e.end) same in
                 absurd (omega (arith, met.1, high, ends_alike))
-            | inr more ↦ has_right (spans_to first.end rest ends) (near xs (starts_behind first.end rest) ends) y
-                (near_complete xs (starts_behind first.end rest) x y far_up ascends.1 (λ z has_z. ordered z (inr has_z)) more close
-                (kept_behind ends y first.end rest last_up high here))
+            | inr more ↦ has_right (spans_to first.end rest ends) (near xs (beyond first.end rest) ends) y
+                (near_complete xs (beyond first.end rest) x y far_up ascends.1 (λ z has_z. ordered z (inr has_z)) more close
+                (kept_beyond ends y first.end rest last_up high here))
           ]
         ]
         | inr before ↦ elim has [
@@ -409,7 +277,8 @@ walked starts ends frames extents up ends_up ascends ordered = record {
 
 -- ---- what the calls give
 
-last_dropped : (starts : List ℕ) (bound passed : ℕ) → Rises starts → EndsBelow starts bound passed → drop (passed - 1) starts ≡ from_last bound starts
+last_dropped : (starts : List ℕ) (bound passed : ℕ) → Rises starts → EndsBelow starts bound passed
+    → drop (passed - 1) starts ≡ from_last bound starts
 last_dropped [] bound zero up ends = refl
 last_dropped [] bound (suc passed) up ends = let none = ends.within in absurd (omega (arith, none))
 last_dropped (start ∷ []) bound passed up ends =
@@ -483,12 +352,12 @@ module _ (ends : List ℕ) (place : ℕ) where
 module _ (bound : ℕ) (ends : List ℕ) where
   pub step_spans : (starts : List ℕ) → 0 < length starts → get_or starts 0 0 ≤ bound
       → (spans_to bound starts ends ≡ listed (first_span starts ends) ++ spans_to bound (drop 1 starts) ends)
-      × (starts_behind bound starts ≡ starts_behind bound (drop 1 starts))
+      × (beyond bound starts ≡ beyond bound (drop 1 starts))
   step_spans [] some low = absurd (omega arith)
   step_spans (start ∷ later) some low = rw (le-leb start bound low) (refl, refl)
 
   pub stopped : (starts : List ℕ) → (0 < length starts → bound < get_or starts 0 0)
-      → (spans_to bound starts ends ≡ []) × (starts_behind bound starts ≡ starts)
+      → (spans_to bound starts ends ≡ []) × (beyond bound starts ≡ starts)
   stopped [] far = (refl, refl)
   stopped (start ∷ later) far =
       let over = far (omega arith) in
@@ -496,7 +365,8 @@ module _ (bound : ℕ) (ends : List ℕ) where
       let low = leb-true start bound is in omega (arith, low, over)) in
       rw none (refl, refl)
 
-increases_by : (rest all : List ℕ) (test : Bool) → IsStrictlyIncreasing rest → IsStrictlyIncreasing all → IsStrictlyIncreasing (cond test rest all)
+increases_by : (rest all : List ℕ) (test : Bool) → IsStrictlyIncreasing rest → IsStrictlyIncreasing all
+    → IsStrictlyIncreasing (cond test rest all)
 increases_by rest all true rest_up up = rest_up
 increases_by rest all false rest_up up = up
 
@@ -506,8 +376,8 @@ last_increases bound (start ∷ later) up =
     increases_by (from_last bound later) (start ∷ later) (first_below bound later)
     (last_increases bound later (increasing_rest start later up)) up
 
-pub behind_increases : (bound : ℕ) (starts : List ℕ) → IsStrictlyIncreasing starts → IsStrictlyIncreasing (starts_behind bound starts)
-behind_increases bound [] up = up
-behind_increases bound (start ∷ later) up =
-    increases_by (starts_behind bound later) (start ∷ later) (nat_le start bound)
-    (behind_increases bound later (increasing_rest start later up)) up
+pub beyond_increases : (bound : ℕ) (starts : List ℕ) → IsStrictlyIncreasing starts → IsStrictlyIncreasing (beyond bound starts)
+beyond_increases bound [] up = up
+beyond_increases bound (start ∷ later) up =
+    increases_by (beyond bound later) (start ∷ later) (nat_le start bound)
+    (beyond_increases bound later (increasing_rest start later up)) up

@@ -1,39 +1,31 @@
 -- Lines and files over frames that lie apart, as spans of the addresses of two tags; and what operators make of those near extents.
-use Rattle.std.proofs.Common.{◌≡◌, ℕ, ◌+◌, ◌^◌, ◌<◌, ◌≤◌, Bool, true, false, ◌⊎◌, List, [], ◌∷◌, refl, sym, ap, ◌∙◌, subst, inl, inr, arith, map, filter}
-use Rattle.std.specs.Cmp.{both_ways}
-use Rattle.std.specs.Prelude.{IfSome}
-use Rattle.std.specs.List.{All, list_any}
+use Rattle.std.proofs.Common.{◌≡◌, ℕ, ◌+◌, ◌<◌, ◌≤◌, true, ◌⊎◌, List, [], ◌∷◌, refl, sym, ap, ◌∙◌, subst, inl, inr, arith, map}
 use Rattle.std.proofs.lemmas.Bool.{and_parts, and_from}
-use Rattle.std.proofs.lemmas.List.Elements.{All-from_recursion, recursion_from_All}
-use Rattle.wu_base.specs.Ranges.{AreApart}
 use Rattle.wu_base.specs.declared.addresses.Extent.{Extent}
 use Rattle.wu_base.specs.declared.addresses.Range.{Range}
 use Rattle.wu_base.specs.declared.addresses.TermList.{TermList}
-use Rattle.wu_gcl.specs.declared.expressions.Op.{Op}
-use Rattle.wu_gcl.specs.declared.expressions.Op.TheVariants.{Containing, ContainedIn, NotContaining, NotContainedIn, OneOf, BothOf}
 use Rattle.wu_gcl.specs.declared.expressions.Op.TheVariants.{FollowedBy}
 use Rattle.wu_gcl.specs.declared.expressions.Tag.{Tag}
-use Rattle.wu_gcl.specs.Extents.{holds}
 use Rattle.wu_gcl.specs.Reading.{tag_text}
 use Rattle.wu_gcl.specs.Regions.{Region, Phrase, Mark, Both}
 use Rattle.wu_solve.specs.Addresses.{has_address, stands_by, AreAddressesOf}
 use Rattle.wu_solve.specs.Frames.{lies_in_one}
-use Rattle.wu_solve.specs.Listing.{IsAscending, Has}
-use Rattle.wu_solve.specs.Merging.{is_wanted, holding, held, tested, span, IsSpan, AreInnermost}
-use Rattle.wu_solve.specs.Solving.{moved, frame_hits, frames_hits, IsFrame}
-use Rattle.wu_solve.specs.Spanning.{IsSpanOf, IsNear, AreSpansNear, AreTagsNear}
-use Rattle.wu_solve.proofs.OneFrame.{frame_all, in_some_frame, from_frame, is_ordered, one_lies, lies_one}
+use Rattle.wu_solve.specs.Listing.{Has}
+use Rattle.wu_solve.specs.Merging.{span, IsSpan, AreInnermost}
+use Rattle.wu_solve.specs.Solving.{moved, frame_hits, frames_hits}
+use Rattle.wu_solve.specs.Spanning.{IsSpanOf, AreSpansNear, AreHitsNear}
+use Rattle.wu_solve.proofs.OneFrame.{in_some_frame, from_frame, one_lies, lies_one}
 use Rattle.wu_solve.proofs.Operators.{no_other}
-use Rattle.wu_solve.proofs.Order.{one_list, filter_ordered, ordered_from}
 use Rattle.wu_solve.proofs.PhrasesInFrames.{phrase_at, at_phrase}
-use Rattle.wu_solve.proofs.Results.{LiesIn, extent_lies, filter_alike, frames_ascend}
+use Rattle.wu_solve.proofs.Results.{LiesIn, extent_lies}
 use Rattle.wu_solve.proofs.SameRegions.{tag_is_word}
-use Rattle.wu_solve.proofs.Sets.{holds_means, same_ends, found, finds, all_from, from_filter, to_filter}
-use Rattle.wu_solve.proofs.Whole.{followed_by_each, containing_whole, contained_in_whole, not_containing_whole, not_contained_in_whole}
+use Rattle.wu_solve.proofs.Sets.{holds_means, same_ends}
+use Rattle.wu_solve.proofs.Whole.{followed_by_each}
 
 -- ---- one tag in a frame
 
-tag_of_frame : (lists : List TermList) (tag : Tag) (f : Range) → frame_hits (Phrase (tag_text tag ∷ [])) lists f ≡ frame_hits (Mark tag) lists f
+tag_of_frame : (lists : List TermList) (tag : Tag) (f : Range)
+    → frame_hits (Phrase (tag_text tag ∷ [])) lists f ≡ frame_hits (Mark tag) lists f
 tag_of_frame lists tag f = ap (map (moved f.start)) (tag_is_word tag (stands_by lists f.start) f.len)
 
 mark_at : (lists : List TermList) (tag : Tag) (f : Range) (x : Extent) → Has (frame_hits (Mark tag) lists f) x
@@ -152,150 +144,9 @@ module _ (lists : List TermList) (first last : Tag) (starts ends : List ℕ) (st
         from_frame between lists frames o.0 x o.1
         (frame_of_span o.0 x (record { low = o.2; ordered = omega (arith, forward); high = o.3 }) is)
 
-    module _ (apart : AreApart frames) (extents xs : List Extent) (near : AreSpansNear starts ends frames extents xs) where
-      holds_near : (x : Extent) → Has extents x
-          → list_any (λ y. holds x y) xs ≡ list_any (λ y. holds x y) (frames_hits between lists frames)
-      holds_near x has = both_ways _ _
-          (λ is. let f = found (λ y. holds x y) xs is in
-          let s = near.sound f.0 f.1 in
-          finds (λ y. holds x y) (frames_hits between lists frames) f.0 (are_spans f.0 s.0 s.1) f.2)
-          (λ is. let f = found (λ y. holds x y) (frames_hits between lists frames) is in
-          let s = spans_are f.0 f.1 in
-          finds (λ y. holds x y) xs f.0 (near.complete x f.0 has (inl f.2) s.0 s.1) f.2)
-
-      held_near : (x : Extent) → Has extents x
-          → list_any (λ y. holds y x) xs ≡ list_any (λ y. holds y x) (frames_hits between lists frames)
-      held_near x has = both_ways _ _
-          (λ is. let f = found (λ y. holds y x) xs is in
-          let s = near.sound f.0 f.1 in
-          finds (λ y. holds y x) (frames_hits between lists frames) f.0 (are_spans f.0 s.0 s.1) f.2)
-          (λ is. let f = found (λ y. holds y x) (frames_hits between lists frames) is in
-          let s = spans_are f.0 f.1 in
-          finds (λ y. holds y x) xs f.0 (near.complete x f.0 has (inr f.2) s.0 s.1) f.2)
-
-      -- as the right operand
-
-      pub holding_near : (w : Bool) → holding w extents xs ≡ holding w extents (frames_hits between lists frames)
-      holding_near w = filter_alike _ _ extents (λ x has. ap (is_wanted w) (holds_near x has))
-
-      pub held_by_near : (w : Bool) → held w extents xs ≡ held w extents (frames_hits between lists frames)
-      held_by_near w = filter_alike _ _ extents (λ x has. ap (is_wanted w) (held_near x has))
-
-      -- as the left operand
-
-      kept_alike : (p : Extent → Bool) → ((y : Extent) → p y ≡ true → (x : Extent) × Has extents x × IsNear x y)
-          → filter p xs ≡ filter p (frames_hits between lists frames)
-      kept_alike p close = one_list (filter p xs) (filter p (frames_hits between lists frames))
-          (filter_ordered p xs (ordered_from xs near.ascending))
-          (filter_ordered p (frames_hits between lists frames)
-          (ordered_from (frames_hits between lists frames) (frames_ascend between lists frames apart)))
-          (λ y has.
-          let k = from_filter p xs y has in
-          let s = near.sound y k.0 in
-          to_filter p (frames_hits between lists frames) y (are_spans y s.0 s.1) k.1)
-          (λ y has.
-          let k = from_filter p (frames_hits between lists frames) y has in
-          let s = spans_are y k.0 in
-          let c = close y k.1 in
-          to_filter p xs y (near.complete c.0 y c.1 c.2 s.0 s.1) k.1)
-
-      pub near_holding : holding true xs extents ≡ holding true (frames_hits between lists frames) extents
-      near_holding = kept_alike (λ y. list_any (λ x. holds y x) extents) (λ y is.
-          let f = found (λ x. holds y x) extents is in (f.0, f.1, inr f.2))
-
-      pub near_held : held true xs extents ≡ held true (frames_hits between lists frames) extents
-      near_held = kept_alike (λ y. list_any (λ x. holds x y) extents) (λ y is.
-          let f = found (λ x. holds x y) extents is in (f.0, f.1, inl f.2))
-
--- ---- the extents of an expression
-
-pub all_ordered : (region : Region) (lists : List TermList) (frames : List Range)
-    → All (λ x. x.start ≤ x.end) (frames_hits region lists frames)
-all_ordered region lists frames =
-    All-from_recursion (λ x. x.start ≤ x.end) (frames_hits region lists frames)
-    (all_from (λ x. x.start ≤ x.end) (frames_hits region lists frames) (λ x has. is_ordered region lists frames x has))
-
-pub all_low : (region : Region) (lists : List TermList) (frames : List Range) → All IsFrame frames
-    → All (λ x. x.end < 2 ^ 47) (frames_hits region lists frames)
-all_low region lists frames are =
-    All-from_recursion (λ x. x.end < 2 ^ 47) (frames_hits region lists frames)
-    (all_from (λ x. x.end < 2 ^ 47) (frames_hits region lists frames) (λ x has.
-    let s = in_some_frame region lists frames x has in
-    let frame : s.0.start + s.0.len ≤ 2 ^ 47 = frame_all IsFrame frames s.0 (recursion_from_All IsFrame frames are) s.1 in
-    let lies = extent_lies region lists s.0 x s.2 in
-    omega (arith, lies.high, frame)))
-
--- ---- what an operator makes of spans near extents
-
--- the operator only tests the extents of its left operand
-abbrev IsTest : Op → Type 0
-IsTest Containing = Unit {0}
-IsTest ContainedIn = Unit {0}
-IsTest NotContaining = Unit {0}
-IsTest NotContainedIn = Unit {0}
-IsTest OneOf = ⊥
-IsTest BothOf = ⊥
-IsTest FollowedBy = ⊥
-
--- what it gives holds an extent of the right one, or lies in one
-abbrev IsHolding : Op → Type 0
-IsHolding Containing = Unit {0}
-IsHolding ContainedIn = Unit {0}
-IsHolding NotContaining = ⊥
-IsHolding NotContainedIn = ⊥
-IsHolding OneOf = ⊥
-IsHolding BothOf = ⊥
-IsHolding FollowedBy = ⊥
-
-pub is_holding : (op : Op) → (op ≡ Containing) ⊎ (op ≡ ContainedIn) → IsHolding op
-is_holding op (inl is) = subst IsHolding (sym is) tt
-is_holding op (inr is) = subst IsHolding (sym is) tt
-
-pub is_test : (op : Op) → (op ≡ Containing) ⊎ ((op ≡ ContainedIn) ⊎ ((op ≡ NotContaining) ⊎ (op ≡ NotContainedIn))) → IsTest op
-is_test op (inl is) = subst IsTest (sym is) tt
-is_test op (inr (inl is)) = subst IsTest (sym is) tt
-is_test op (inr (inr (inl is))) = subst IsTest (sym is) tt
-is_test op (inr (inr (inr is))) = subst IsTest (sym is) tt
-
-module _ (lists : List TermList) (frames : List Range) (apart : AreApart frames) (first last : Tag) (one other : Region) where
-  abbrev spans_between : List Extent
-  spans_between = frames_hits (Both FollowedBy (Mark first) (Mark last)) lists frames
-
-  pub ascend_near : (extents xs : List Extent) → AreTagsNear lists frames first last extents xs → IsAscending xs
-  ascend_near extents xs near = near.4.ascending
-
-  -- the spans as the right operand of a test
-  pub with_spans : (op : Op) (xs all : List Extent) → AreTagsNear lists frames first last (frames_hits one lists frames) xs
-      → spans_between ≡ frames_hits other lists frames → IfSome (tested op (frames_hits one lists frames) xs) (λ kept. all ≡ kept)
-      → IsTest op → all ≡ frames_hits (Both op one other) lists frames
-  with_spans Containing xs all near same is test =
-      is ∙ holding_near lists first last near.0 near.1 near.2 near.3 frames apart (frames_hits one lists frames) xs near.4 true
-      ∙ ap (holding true (frames_hits one lists frames)) same ∙ containing_whole one other lists frames apart
-  with_spans ContainedIn xs all near same is test =
-      is ∙ held_by_near lists first last near.0 near.1 near.2 near.3 frames apart (frames_hits one lists frames) xs near.4 true
-      ∙ ap (held true (frames_hits one lists frames)) same ∙ contained_in_whole one other lists frames apart
-  with_spans NotContaining xs all near same is test =
-      is ∙ holding_near lists first last near.0 near.1 near.2 near.3 frames apart (frames_hits one lists frames) xs near.4 false
-      ∙ ap (holding false (frames_hits one lists frames)) same ∙ not_containing_whole one other lists frames apart
-  with_spans NotContainedIn xs all near same is test =
-      is ∙ held_by_near lists first last near.0 near.1 near.2 near.3 frames apart (frames_hits one lists frames) xs near.4 false
-      ∙ ap (held false (frames_hits one lists frames)) same ∙ not_contained_in_whole one other lists frames apart
-  with_spans OneOf xs all near same is test = absurd test
-  with_spans BothOf xs all near same is test = absurd test
-  with_spans FollowedBy xs all near same is test = absurd test
-
-  -- the spans as the left operand, where each that is kept stands near an extent
-  pub of_spans : (op : Op) (xs all : List Extent) → AreTagsNear lists frames first last (frames_hits other lists frames) xs
-      → spans_between ≡ frames_hits one lists frames → IfSome (tested op xs (frames_hits other lists frames)) (λ kept. all ≡ kept)
-      → IsHolding op → all ≡ frames_hits (Both op one other) lists frames
-  of_spans Containing xs all near same is kept =
-      is ∙ near_holding lists first last near.0 near.1 near.2 near.3 frames apart (frames_hits other lists frames) xs near.4
-      ∙ ap (λ (ys : List Extent). holding true ys (frames_hits other lists frames)) same ∙ containing_whole one other lists frames apart
-  of_spans ContainedIn xs all near same is kept =
-      is ∙ near_held lists first last near.0 near.1 near.2 near.3 frames apart (frames_hits other lists frames) xs near.4
-      ∙ ap (λ (ys : List Extent). held true ys (frames_hits other lists frames)) same ∙ contained_in_whole one other lists frames apart
-  of_spans NotContaining xs all near same is kept = absurd kept
-  of_spans NotContainedIn xs all near same is kept = absurd kept
-  of_spans OneOf xs all near same is kept = absurd kept
-  of_spans BothOf xs all near same is kept = absurd kept
-  of_spans FollowedBy xs all near same is kept = absurd kept
+    pub hits_near : (extents xs : List Extent) → AreSpansNear starts ends frames extents xs → AreHitsNear between lists frames extents xs
+    hits_near extents xs near = record {
+      ascending = near.ascending;
+      sound = λ y has. let s = near.sound y has in are_spans y s.0 s.1;
+      complete = λ x y has close hit. let s = spans_are y hit in near.complete x y has close s.0 s.1;
+    }

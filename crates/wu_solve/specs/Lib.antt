@@ -13,3 +13,4 @@ pub mod Merging
 pub mod FirstExtents
 pub mod Windows
 pub mod Spanning
+pub mod Simple

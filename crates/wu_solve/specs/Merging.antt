@@ -1,5 +1,6 @@
 -- What an operator makes of two lists of extents.
-use Rattle.std.specs.Prelude.{◌≡◌, ◌⊎◌, ◌<◌, Bool, true, false, not, min, max, List, filter, Option, None, Some, if◌then◌else◌}
+use Rattle.std.specs.Prelude.{◌≡◌, ◌⊎◌, ⊤, ◌<◌, Bool, true, false, not, min, max, List, [], filter, IsSome, Option, None, Some}
+use Rattle.std.specs.Prelude.{if◌then◌else◌}
 use Rattle.std.specs.List.{list_any}
 use Rattle.wu_base.specs.declared.addresses.Extent.{Extent}
 use Rattle.wu_gcl.specs.Extents.{holds}
@@ -28,6 +29,20 @@ tested NotContainedIn left right = Some (held false left right)
 tested OneOf left right = None
 tested BothOf left right = None
 tested FollowedBy left right = None
+
+-- the operator is one of these
+abbrev pub IsTest : Op → Type 0
+IsTest op = IsSome (tested op [] [])
+
+-- what the operator keeps holds an extent of the right operand, or is held by one
+abbrev pub KeepsByOne : Op → Type 0
+KeepsByOne Containing = ⊤
+KeepsByOne ContainedIn = ⊤
+KeepsByOne NotContaining = ⊥
+KeepsByOne NotContainedIn = ⊥
+KeepsByOne OneOf = ⊥
+KeepsByOne BothOf = ⊥
+KeepsByOne FollowedBy = ⊥
 
 -- the least extent that holds both
 abbrev pub cover : Extent → Extent → Extent

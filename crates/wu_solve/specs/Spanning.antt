@@ -1,14 +1,15 @@
--- Lines and files, as spans from one address to another, and those of them that stand near extents.
-use Rattle.std.specs.Prelude.{◌≡◌, ◌⊎◌, ℕ, ◌+◌, ◌<◌, ◌≤◌, Bool, true, false, nat_le, nat_lt, List, [], ◌∷◌, ◌++◌, filter, Option, None, Some, if◌then◌else◌}
+-- What stands near extents: spans from one address to another, as lines and files are, and single addresses.
+use Rattle.std.specs.Prelude.{◌≡◌, ◌⊎◌, ℕ, ◌+◌, ◌<◌, ◌≤◌, Bool, true, false, nat_le, nat_lt, List, [], ◌∷◌, ◌++◌, filter, Option, None}
+use Rattle.std.specs.Prelude.{Some, if◌then◌else◌}
 use Rattle.wu_base.specs.declared.addresses.Extent.{Extent}
 use Rattle.wu_base.specs.declared.addresses.Range.{Range}
 use Rattle.wu_base.specs.declared.addresses.TermList.{TermList}
 use Rattle.wu_gcl.specs.Extents.{holds}
-use Rattle.wu_gcl.specs.Reading.{tag_text}
-use Rattle.wu_gcl.specs.declared.expressions.Tag.{Tag}
-use Rattle.wu_solve.specs.Addresses.{is_among, AreAddressesOf}
+use Rattle.wu_gcl.specs.Regions.{Region}
+use Rattle.wu_solve.specs.Addresses.{is_among}
 use Rattle.wu_solve.specs.Frames.{lies_in_one}
 use Rattle.wu_solve.specs.Listing.{IsAscending, Has}
+use Rattle.wu_solve.specs.Solving.{frames_hits}
 
 -- from one of the starts to one of the ends behind it, with none of either between them
 pub record IsSpanOf (starts ends : List ℕ) (x : Extent) : Type 0 where
@@ -28,11 +29,22 @@ pub record AreSpansNear (starts ends : List ℕ) (frames : List Range) (extents 
   pub sound : (y : Extent) → Has xs y → IsSpanOf starts ends y × (lies_in_one frames y ≡ true)
   pub complete : (x y : Extent) → Has extents x → IsNear x y → IsSpanOf starts ends y → lies_in_one frames y ≡ true → Has xs y
 
--- the same from one tag to another, by their addresses
-abbrev pub AreTagsNear : List TermList → List Range → Tag → Tag → List Extent → List Extent → Type 0
-AreTagsNear lists frames first last extents xs =
-    (starts : List ℕ) × (ends : List ℕ) × AreAddressesOf lists (tag_text first) starts × AreAddressesOf lists (tag_text last) ends
-    × AreSpansNear starts ends frames extents xs
+-- one of the addresses
+pub record IsPlaceOf (addresses : List ℕ) (x : Extent) : Type 0 where
+  pub alone : x.start ≡ x.end
+  pub among : is_among addresses x.start ≡ true
+
+-- The addresses that stand near one of the extents, each as an extent.
+pub record ArePlacesNear (addresses : List ℕ) (extents xs : List Extent) : Type 0 where
+  pub ascending : IsAscending xs
+  pub sound : (y : Extent) → Has xs y → IsPlaceOf addresses y × ((x : Extent) × Has extents x × (holds x y ≡ true))
+  pub complete : (x y : Extent) → Has extents x → IsNear x y → IsPlaceOf addresses y → Has xs y
+
+-- Some of the expression's extents, and each of them that stands near one of the others.
+pub record AreHitsNear (region : Region) (lists : List TermList) (frames : List Range) (extents xs : List Extent) : Type 0 where
+  pub ascending : IsAscending xs
+  pub sound : (y : Extent) → Has xs y → Has (frames_hits region lists frames) y
+  pub complete : (x y : Extent) → Has extents x → IsNear x y → Has (frames_hits region lists frames) y → Has xs y
 
 -- ---- what private functions give
 
@@ -63,10 +75,10 @@ spans_to bound [] ends = []
 spans_to bound (start ∷ later) ends =
     if nat_le start bound then listed (first_span (start ∷ later) ends) ++ spans_to bound later ends else []
 
--- the starts behind the bound
-abbrev pub starts_behind : ℕ → List ℕ → List ℕ
-starts_behind bound [] = []
-starts_behind bound (start ∷ later) = if nat_le start bound then starts_behind bound later else start ∷ later
+-- the addresses beyond the bound
+abbrev pub beyond : ℕ → List ℕ → List ℕ
+beyond bound [] = []
+beyond bound (start ∷ later) = if nat_le start bound then beyond bound later else start ∷ later
 
 -- the starts from the last one on that is below the bound
 abbrev pub from_last : ℕ → List ℕ → List ℕ
@@ -76,3 +88,8 @@ from_last bound (start ∷ later) = if first_below bound later then from_last bo
 -- as far as they lie in one of the frames
 abbrev pub lying_spans : List Range → ℕ → List ℕ → List ℕ → List Extent
 lying_spans frames bound starts ends = filter (lies_in_one frames) (spans_to bound starts ends)
+
+-- the addresses up to a bound, each as an extent
+abbrev pub places_to : ℕ → List ℕ → List Extent
+places_to bound [] = []
+places_to bound (a ∷ more) = if nat_le a bound then record { start = a; end = a } ∷ places_to bound more else []

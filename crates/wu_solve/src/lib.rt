@@ -16,11 +16,14 @@ mod laws;
 mod lookup;
 mod meeting;
 mod merging;
+mod nearby;
 mod needed;
 mod operands;
 mod overlaps;
+mod places;
 mod solving;
 mod spanning;
+mod ways;
 mod windows;
 
 pub use counting::{Counts, count, count_apart, only_term};

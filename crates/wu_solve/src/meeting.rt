@@ -10,9 +10,10 @@ ghost use Rattle.wu_base.specs.Ranges.{AreApart};
 use crate::framing::{end_of, frame_at};
 use crate::lookup::{addresses_from, addresses_of, rarest};
 use crate::needed::needed_terms;
+use crate::ways::{Way, way_of};
 use std::alloc::Global;
 use wu_base::{Bytes, NoMemory, Range, TermList};
-use wu_gcl::{Expr, Op};
+use wu_gcl::Expr;
 
 /// With so many addresses of a needed term for each frame, its frames aren't sought: most frames have
 /// it.
@@ -50,23 +51,17 @@ pub fn frames_with_needed(
     }
 }
 
-/// Whether the expression lists no more in a frame than the places of its words. Only the time depends
-/// on it.
+/// Whether the expression lists no more in a frame than the places of its words, and what stands
+/// near them. Only the time depends on it.
 fn is_of_words(expr: &Expr) -> bool {
     match expr {
         Expr::Phrase(_) => true,
-        Expr::Both(op, left, right) => {
-            is_of_words(left) && (is_of_words(right) || is_measured(*op, right))
-        }
+        Expr::Both(op, left, right) => match way_of(*op, left, right) {
+            Way::Windows(_) | Way::RightNear(_) => is_of_words(left),
+            Way::LeftNear(_) => is_of_words(right),
+            Way::Lists => is_of_words(left) && is_of_words(right),
+        },
         _ => false,
-    }
-}
-
-/// Whether the right operand is windows that the operator doesn't list.
-fn is_measured(op: Op, right: &Expr) -> bool {
-    match op {
-        Op::OneOf | Op::BothOf | Op::FollowedBy => false,
-        _ => matches!(right, Expr::Window(_)),
     }
 }
 

@@ -6,17 +6,16 @@ ghost use Rattle.wu_gcl.specs.Regions.{Region, region_of, Mark, Window, Both};
 ghost use Rattle.wu_solve.specs.Addresses.{AreLists};
 ghost use Rattle.wu_solve.specs.Listing.{IsAscending};
 ghost use Rattle.wu_solve.specs.Merging.{tested};
-ghost use Rattle.wu_solve.specs.Solving.{AreHits, frames_hits, IsFrame};
-ghost use Rattle.wu_solve.specs.Spanning.{AreTagsNear};
+ghost use Rattle.wu_solve.specs.Solving.{frames_hits, IsFrame};
 ghost use Rattle.wu_base.specs.Ranges.{AreApart};
 
 use crate::containment::{held, holding};
 use crate::framing::{are_apart, lying_in};
 use crate::meeting::frames_with_needed;
-use crate::lookup::addresses_of;
 use crate::merging::{both_of, followed_by, one_of};
+use crate::nearby::near;
 use crate::operands::{phrase, term, windows};
-use crate::spanning::spans_near;
+use crate::ways::{Way, way_of};
 use crate::windows::{held_by_windows, holding_windows};
 use std::alloc::Global;
 use wu_base::{Extent, NoMemory, Range, TermList};
@@ -49,16 +48,6 @@ fn combine(
         Op::OneOf => one_of(alloc, left, right),
         Op::BothOf => lying_in(alloc, &both_of(alloc, left, right)?, frames),
         Op::FollowedBy => lying_in(alloc, &followed_by(alloc, left, right)?, frames),
-    }
-}
-
-/// The size of windows, if the expression is no more than these.
-fn window_size(expr: &Expr) -> Option<u16>
-    ensures { IfSome result (λ size. region_of expr.now ≡ Window size) }
-{
-    match expr {
-        Expr::Window(size) => Some(*size),
-        _ => None,
     }
 }
 
@@ -121,103 +110,10 @@ fn between(
     combine(alloc, Op::FollowedBy, &left, &right, frames)
 }
 
-/// From which tag to which the expression means the spans, if it is a file or a line alone.
-fn spanned(expr: &Expr) -> Option<(Tag, Tag)>
-    ensures { IfSome result (λ tags. (lists : List TermList) (frames : List Range)
-        → frames_hits (Both FollowedBy (Mark tags.0) (Mark tags.1)) lists frames ≡ frames_hits (region_of expr.now) lists frames) }
-{
-    match expr {
-        Expr::File => Some((Tag::FileStart, Tag::FileEnd)),
-        Expr::Line => Some((Tag::LineStart, Tag::LineEnd)),
-        _ => None,
-    }
-}
-
-/// The spans from the one tag to the other that stand near the extents, as `spans_near` gives them.
-fn near(
-    alloc: Global,
-    first: Tag,
-    last: Tag,
-    extents: &[Extent],
-    frames: &[Range],
-    lists: &[TermList],
-) -> Result<Vec<Extent>, NoMemory>
-    requires lists { AreLists lists.now }
-    requires frames { All IsFrame frames.now }
-    requires apart { AreApart frames.now }
-    requires hits { AreHits lists.now frames.now extents.now }
-    ensures { IfOk result (λ v. AreTagsNear lists.now frames.now first last extents.now v.items) }
-{
-    let starts = addresses_of(lists, tag_bytes(first));
-    let ends = addresses_of(lists, tag_bytes(last));
-    spans_near(alloc, starts, ends, extents, frames)
-}
-
-/// What the operator makes of extents and the spans from the one tag to the other. Where it only tests
-/// the extents, no more spans are listed than stand near them.
-fn combine_with_spans(
-    alloc: Global,
-    op: Op,
-    left: &[Extent],
-    first: Tag,
-    last: Tag,
-    frames: &[Range],
-    lists: &[TermList],
-) -> Result<Vec<Extent>, NoMemory>
-    requires lists { AreLists lists.now }
-    requires frames { All IsFrame frames.now }
-    requires apart { AreApart frames.now }
-    requires left { AreHits lists.now frames.now left.now }
-    ensures { (one other : Region) → left.now ≡ frames_hits one lists.now frames.now
-        → frames_hits (Both FollowedBy (Mark first) (Mark last)) lists.now frames.now ≡ frames_hits other lists.now frames.now
-        → IfOk result (λ v. v.items ≡ frames_hits (Both op one other) lists.now frames.now) }
-{
-    match op {
-        Op::Containing | Op::ContainedIn | Op::NotContaining | Op::NotContainedIn => {
-            let right = near(alloc, first, last, left, frames, lists)?;
-            combine(alloc, op, left, &right, frames)
-        }
-        Op::OneOf | Op::BothOf | Op::FollowedBy => {
-            let right = between(alloc, first, last, frames, lists)?;
-            combine(alloc, op, left, &right, frames)
-        }
-    }
-}
-
-/// What the operator makes of the spans from the one tag to the other and extents. Where each of the
-/// spans that it gives holds one of these or lies in one, no others are listed but some near them.
-fn combine_spans(
-    alloc: Global,
-    op: Op,
-    first: Tag,
-    last: Tag,
-    right: &[Extent],
-    frames: &[Range],
-    lists: &[TermList],
-) -> Result<Vec<Extent>, NoMemory>
-    requires lists { AreLists lists.now }
-    requires frames { All IsFrame frames.now }
-    requires apart { AreApart frames.now }
-    requires right { AreHits lists.now frames.now right.now }
-    ensures { (one other : Region) → right.now ≡ frames_hits other lists.now frames.now
-        → frames_hits (Both FollowedBy (Mark first) (Mark last)) lists.now frames.now ≡ frames_hits one lists.now frames.now
-        → IfOk result (λ v. v.items ≡ frames_hits (Both op one other) lists.now frames.now) }
-{
-    match op {
-        Op::Containing | Op::ContainedIn => {
-            let left = near(alloc, first, last, right, frames, lists)?;
-            combine(alloc, op, &left, right, frames)
-        }
-        _ => {
-            let left = between(alloc, first, last, frames, lists)?;
-            combine(alloc, op, &left, right, frames)
-        }
-    }
-}
-
 /// The extents of the expression in frames that lie apart, in one walk over all of them: of each
-/// operand and operator one list, whatever the number of frames. Windows, lines and files aren't listed
-/// where the operator only tests for them.
+/// operand and operator one list, whatever the number of frames. Where an operator only tests,
+/// windows aren't listed, and of lines, files, tags and single words no more than stands near the
+/// other operand.
 pub fn solve_at_once(
     alloc: Global,
     expr: &Expr,
@@ -235,22 +131,27 @@ pub fn solve_at_once(
         Expr::File => between(alloc, Tag::FileStart, Tag::FileEnd, frames, lists),
         Expr::Line => between(alloc, Tag::LineStart, Tag::LineEnd, frames, lists),
         Expr::Window(size) => windows(alloc, *size, frames),
-        Expr::Both(op, left, right) => {
-            if let Some(size) = window_size(right) {
+        Expr::Both(op, left, right) => match way_of(*op, left, right) {
+            Way::Windows(size) => {
                 let left = solve_at_once(alloc, left, frames, lists)?;
-                return combine_with_windows(alloc, *op, &left, size, frames);
+                combine_with_windows(alloc, *op, &left, size, frames)
             }
-            if let Some((first, last)) = spanned(left) {
+            Way::LeftNear(simple) => {
                 let right = solve_at_once(alloc, right, frames, lists)?;
-                return combine_spans(alloc, *op, first, last, &right, frames, lists);
+                let left = near(alloc, simple, &right, frames, lists)?;
+                combine(alloc, *op, &left, &right, frames)
             }
-            let left = solve_at_once(alloc, left, frames, lists)?;
-            if let Some((first, last)) = spanned(right) {
-                return combine_with_spans(alloc, *op, &left, first, last, frames, lists);
+            Way::RightNear(simple) => {
+                let left = solve_at_once(alloc, left, frames, lists)?;
+                let right = near(alloc, simple, &left, frames, lists)?;
+                combine(alloc, *op, &left, &right, frames)
             }
-            let right = solve_at_once(alloc, right, frames, lists)?;
-            combine(alloc, *op, &left, &right, frames)
-        }
+            Way::Lists => {
+                let left = solve_at_once(alloc, left, frames, lists)?;
+                let right = solve_at_once(alloc, right, frames, lists)?;
+                combine(alloc, *op, &left, &right, frames)
+            }
+        },
     }
 }
 

@@ -5,7 +5,7 @@ ghost use Rattle.wu_base.specs.Ranges.{AreApart};
 ghost use Rattle.wu_solve.specs.Frames.{lies_in_one};
 ghost use Rattle.wu_solve.specs.Listing.{IsAscending};
 ghost use Rattle.wu_solve.specs.Solving.{IsFrame};
-ghost use Rattle.wu_solve.specs.Spanning.{AreSpansNear, first_span, from_last, listed, lying_spans, starts_behind};
+ghost use Rattle.wu_solve.specs.Spanning.{AreSpansNear, first_span, from_last, listed, lying_spans, beyond};
 
 use crate::framing::lies_in_one;
 use crate::lookup::{address_at, behind, below};
@@ -73,7 +73,7 @@ fn put_spans<'a>(
     requires low { bound < 2 ^ 47 }
     requires frames { All IsFrame frames.now }
     requires apart { AreApart frames.now }
-    ensures rest { IfOk result (λ rest. rest.now ≡ starts_behind bound starts.now) }
+    ensures rest { IfOk result (λ rest. rest.now ≡ beyond bound starts.now) }
     ensures put { OnOk result (found.new.items ≡ found.old.items ++ lying_spans frames.now bound starts.now ends.now) }
 {
     let mut rest = starts;

@@ -3,7 +3,8 @@ use Rattle.std.proofs.lemmas.Grind.{common_steps}
 use Rattle.wu_solve.specs.Addresses.{EndsBelow}
 use Rattle.wu_solve.proofs.NearSpans.{none_behind, next_before, first_is}
 use Rattle.wu_solve.proofs.spanning.first_span.Goals as goal
-use Rattle.wu_solve.proofs.spanning.first_span.Goals.{else-starts-gt1-via-then-starts-gt1+else-starts-end, else-starts-gt1-via-else-starts-gt1}
+use Rattle.wu_solve.proofs.spanning.first_span.Goals.{else-starts-gt1-via-then-starts-gt1+else-starts-end}
+use Rattle.wu_solve.proofs.spanning.first_span.Goals.{else-starts-gt1-via-else-starts-gt1}
 
 pub returns-in_err-end : goal.returns-in_err-end
 returns-in_err-end c =

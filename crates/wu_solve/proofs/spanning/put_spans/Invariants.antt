@@ -1,12 +1,12 @@
 use Rattle.std.proofs.Common.{◌≡◌, ◌++◌, length}
 use Rattle.std.specs.List.Sorted.{IsStrictlyIncreasing}
-use Rattle.wu_solve.specs.Spanning.{starts_behind, lying_spans}
+use Rattle.wu_solve.specs.Spanning.{beyond, lying_spans}
 use Rattle.wu_solve.proofs.spanning.put_spans.Given as goal
 
 abbrev pub invariant-loop-start : goal.invariant-loop-start
 invariant-loop-start l = record {
   up : IsStrictlyIncreasing l.rest;
-  left : starts_behind l.bound l.rest ≡ starts_behind l.bound l.starts;
+  left : beyond l.bound l.rest ≡ beyond l.bound l.starts;
   same : l.found.items ++ lying_spans l.frames l.bound l.rest l.ends
       ≡ l.initial.found.items ++ lying_spans l.frames l.bound l.starts l.ends;
 }

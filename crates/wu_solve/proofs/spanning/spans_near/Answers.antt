@@ -3,8 +3,8 @@ use Rattle.std.proofs.lemmas.List.{at_drop_all, drop_more}
 use Rattle.std.proofs.lemmas.List.Elements.{filter-append, recursion_from_All}
 use Rattle.wu_base.specs.declared.addresses.Extent.{Extent}
 use Rattle.wu_solve.specs.Frames.{lies_in_one}
-use Rattle.wu_solve.specs.Spanning.{from_last, lying_spans, spans_to, starts_behind}
-use Rattle.wu_solve.proofs.NearSpans.{near, walked, last_increases, behind_increases}
+use Rattle.wu_solve.specs.Spanning.{from_last, lying_spans, spans_to, beyond}
+use Rattle.wu_solve.proofs.NearSpans.{near, walked, last_increases, beyond_increases}
 use Rattle.wu_solve.proofs.Sets.{all_has}
 use Rattle.wu_solve.proofs.spanning.spans_near.Goals as goal
 
@@ -28,13 +28,13 @@ loop-extent-preserved c =
     let x = get_or extents i none in
     let from = from_last x.start rest in
     let here = lying_spans frames x.end from ends in
-    let later = near (drop (i + 1) extents) (starts_behind x.end from) ends in
+    let later = near (drop (i + 1) extents) (beyond x.end from) ends in
     let more = filter (lies_in_one frames) later in
     let split : filter (lies_in_one frames) (near (drop i extents) rest ends) ≡ here ++ more =
     ap (λ (xs : List Extent). filter (lies_in_one frames) (near xs rest ends)) (drop_more extents i none c.loop-extent-test.true)
     ∙ filter-append (lies_in_one frames) (spans_to x.end from ends) later in
     rw (c.in_ok-rest.ensures.rest, c.in_ok-rest.ensures.put, c.from_last-from.ensures) (record {
-      up = behind_increases x.end from (last_increases x.start rest inv.up);
+      up = beyond_increases x.end from (last_increases x.start rest inv.up);
       same = append_assoc old here more ∙ ap (λ (xs : List Extent). old ++ xs) (sym split) ∙ inv.same;
     })
 
@@ -51,4 +51,5 @@ returns c =
     ∙ ap (λ (xs : List Extent). found ++ filter (lies_in_one frames) (near xs c.loop-extent.rest.now ends))
     (sym (at_drop_all (λ (left : List Extent). left) extents c.loop-extent.extent-index (omega arith))) ∙ inv.same in
     rw whole (walked starts ends frames extents c.requires.starts c.requires.ends c.requires.extents
-    (λ x has. all_has (λ (e : Extent). e.start ≤ e.end) extents x (recursion_from_All (λ (e : Extent). e.start ≤ e.end) extents c.requires.ordered) has))
+    (λ x has. all_has (λ (e : Extent). e.start ≤ e.end) extents x
+    (recursion_from_All (λ (e : Extent). e.start ≤ e.end) extents c.requires.ordered) has))

@@ -1,5 +1,5 @@
 use Rattle.wu_solve.proofs.SameRegions.{file_whole, line_whole}
-use Rattle.wu_solve.proofs.solving.spanned.Goals as goal
+use Rattle.wu_solve.proofs.nearby.as_simple.Goals as goal
 
 pub returns-in-File : goal.returns-in-File
 returns-in-File c = λ lists frames. rw c.in-File.is (file_whole lists frames)
