@@ -2,7 +2,7 @@
 use Rattle.std.proofs.Common.{◌≡◌, ℕ, List, [], ◌∷◌, ◌++◌, length, refl, ap, sym, ◌∙◌, subst, ◌⊎◌, inl, inr, ⊎_elim}
 use Rattle.std.specs.Prelude.{Option, Some, None, IfErr, IfNone, IfSome, IsErrAnd, OnErr, OnOk, Result, Ok, Err, option_map}
 use Rattle.std.specs.List.{AllByRecursion}
-use Rattle.wu_outside.specs.Content.{Content}
+use Rattle.wu_outside.specs.Content.{Content, HasSize}
 use Rattle.wu_outside.specs.Crash.{AreAlike, Moments, settle}
 use Rattle.wu_outside.specs.Ranges.{asked_size}
 use Rattle.wu_outside.specs.declared.ranges.ReadRange.{ReadRange}
@@ -19,10 +19,11 @@ use Rattle.wu_engine.specs.declared.engines.Engine.{Engine}
 use Rattle.wu_engine.specs.declared.faults.BeginFault.{BeginFault}
 use Rattle.wu_engine.specs.declared.faults.BeginFault.TheVariants as faults
 use Rattle.wu_engine.specs.Begun.{SyncsOnly}
-use Rattle.wu_engine.specs.Opened.{AsksCheckpoint, FindsRoot, IsFoundIn, IsSettled, MatchesRoot, ReadsCheckpoint, TakesCheckpoint}
-use Rattle.wu_engine.specs.Opening.{HasCheckpoint, HasOpenRoot, HasSize, HasSizedCheckpoint, HoldsImage, IsBeginCause, IsDamagedAtOpening}
-use Rattle.wu_engine.specs.Opening.{IsIndexRange, IsOpen, IsOpeningRange, IsSpentWhere, Opens, OpensIndex, ReadsAtOpening, checkpoint_range}
-use Rattle.wu_engine.specs.Opening.{checkpoint_ranges}
+use Rattle.wu_engine.specs.Opened.{AsksCheckpoint, AsksFound, FindsRoot, IsFoundIn, IsSettled, MatchesRoot, ReadsCheckpoint}
+use Rattle.wu_engine.specs.Opened.{TakesCheckpoint}
+use Rattle.wu_engine.specs.Opening.{HasCheckpoint, HasOpenRoot, HasSizedCheckpoint, HoldsImage, IsBeginCause, IsDamagedAtOpening}
+use Rattle.wu_engine.specs.Opening.{IsIndexRange, IsOpen, IsOpeningRange, IsSpentWhere, Opens, OpensIndex, ReadsAtMostRoot}
+use Rattle.wu_engine.specs.Opening.{ReadsAtOpening, ReadsRoot, checkpoint_range, checkpoint_ranges, opening_root}
 use Rattle.wu_engine.specs.Reindexed.{ReadsIndex}
 use Rattle.wu_engine.proofs.ImageStates.{image_undamaged}
 use Rattle.wu_engine.proofs.LeftImages.{opened_durable, opened_left}
@@ -76,107 +77,125 @@ checkpoint_found (Some content) root found h checkpoint own =
 
 -- ---- reads
 
-pub reads_nothing : (holds : Option Content) (before after : Option (List ReadRange)) → after ≡ before → ReadsAtOpening holds before after
-reads_nothing holds before after same = ([], nothing_read holds, same ∙ ranges-none before)
-  where
-    nothing_read : (held : Option Content) → IfSome held (λ content. AllByRecursion (IsOpeningRange content) [])
-    nothing_read None = tt
-    nothing_read (Some content) = tt
+-- what is read at the opening of any store
+on_any_store : (holds : Option Content) (read : List ReadRange) → ((content : Content) → AllByRecursion (IsOpeningRange content) read)
+    → IfSome holds (λ content. AllByRecursion (IsOpeningRange content) read)
+on_any_store None read all = tt
+on_any_store (Some content) read all = all content
 
-pub opens_nothing : (holds : Option Content) (before after : Option (List ReadRange)) → after ≡ before → IfSome holds (FindsRoot None)
-    → IsOpen holds before after
-opens_nothing holds before after same none = ([], nothing_read holds none, same ∙ ranges-none before)
+-- the root, or nothing
+pub reads_root : (holds : Option Content) (before after : Option (List ReadRange)) → ReadsAtMostRoot before after
+    → ReadsAtOpening holds before after
+reads_root holds before after (inl same) = ([], on_any_store holds [] (λ content. tt), same ∙ ranges-none before)
+reads_root holds before after (inr read) =
+    (opening_root ∷ [], on_any_store holds (opening_root ∷ []) (λ content. (inl refl, tt)), read)
+
+-- there is none
+pub opens_first : (holds : Option Content) (before after : Option (List ReadRange)) → ReadsRoot before after
+    → IfSome holds (FindsRoot None) → IsOpen holds before after
+opens_first holds before after read none = (opening_root ∷ [], root_alone holds none, read)
   where
-    nothing_read : (held : Option Content) → IfSome held (FindsRoot None) → IfSome held (λ content. Opens content [])
-    nothing_read None h = tt
-    nothing_read (Some content) h = inl (h, refl)
+    root_alone : (held : Option Content) → IfSome held (FindsRoot None) → IfSome held (λ content. Opens content (opening_root ∷ []))
+    root_alone None h = tt
+    root_alone (Some content) h = inl (h, refl)
 
 module _ (root : Root) where
-  both_read : (before after : Option (List ReadRange)) → ReadsCheckpoint root before after
-      → after ≡ option_map (λ earlier. earlier ++ checkpoint_ranges root) before
-  both_read before after read = read ∙ reads_joined before (asked_size root.checkpoint ∷ []) (checkpoint_range root ∷ [])
-
   size_opening : (content : Content) → HasOpenRoot content root → IsOpeningRange content (asked_size root.checkpoint)
-  size_opening content roomy = (root, roomy, inl (inl refl))
+  size_opening content roomy = inr (root, roomy, inl (inl refl))
 
   checkpoint_opening : (content : Content) → HasOpenRoot content root → IsOpeningRange content (checkpoint_range root)
-  checkpoint_opening content roomy = (root, roomy, inl (inr (inl refl)))
+  checkpoint_opening content roomy = inr (root, roomy, inl (inr (inl refl)))
 
-  -- once its size was asked the checkpoint was read
-  pub asked_then_taken : (first middle last : Option (List ReadRange)) → AsksCheckpoint root first middle
+  -- once the root was read the size of its checkpoint was asked
+  read_then_asked : (first middle last : Option (List ReadRange)) → ReadsRoot first middle → AsksCheckpoint root middle last
+      → AsksFound (Some root) first last
+  read_then_asked first middle last read asked =
+      asked
+      ∙ (ap (option_map (λ (earlier : List ReadRange). earlier ++ asked_size root.checkpoint ∷ [])) read
+      ∙ reads_joined first (opening_root ∷ []) (asked_size root.checkpoint ∷ []))
+
+  -- and once that was asked the checkpoint was read
+  pub asked_then_taken : (first middle last : Option (List ReadRange)) → AsksFound (Some root) first middle
       → TakesCheckpoint root middle last → ReadsCheckpoint root first last
   asked_then_taken first middle last asked taken =
-      taken ∙ ap (option_map (λ earlier. earlier ++ checkpoint_range root ∷ [])) asked
+      taken
+      ∙ (ap (option_map (λ (earlier : List ReadRange). earlier ++ checkpoint_range root ∷ [])) asked
+      ∙ reads_joined first (opening_root ∷ asked_size root.checkpoint ∷ []) (checkpoint_range root ∷ []))
 
-  -- only its size, or nothing
-  pub reads_size : (holds : Option Content) (before after : Option (List ReadRange))
-      → IfSome holds (λ content. HasOpenRoot content root) → (after ≡ before) ⊎ AsksCheckpoint root before after
-      → ReadsAtOpening holds before after
-  reads_size holds before after roomy (inl same) = reads_nothing holds before after same
-  reads_size holds before after roomy (inr asked) = (asked_size root.checkpoint ∷ [], one_asked holds roomy, asked)
+  reads_found : (holds : Option Content) (before after : Option (List ReadRange)) → IfSome holds (λ content. HasOpenRoot content root)
+      → AsksFound (Some root) before after → ReadsAtOpening holds before after
+  reads_found holds before after roomy asked = (opening_root ∷ asked_size root.checkpoint ∷ [], one_asked holds roomy, asked)
     where
       one_asked : (held : Option Content) → IfSome held (λ content. HasOpenRoot content root)
-          → IfSome held (λ content. AllByRecursion (IsOpeningRange content) (asked_size root.checkpoint ∷ []))
+          → IfSome held (λ content. AllByRecursion (IsOpeningRange content) (opening_root ∷ asked_size root.checkpoint ∷ []))
       one_asked None h = tt
-      one_asked (Some content) h = (size_opening content h, tt)
+      one_asked (Some content) h = (inl refl, (size_opening content h, tt))
 
-  -- its size, and then the checkpoint or nothing
+  -- the root, and then only the size of its checkpoint, or nothing
+  pub reads_size : (holds : Option Content) (first middle last : Option (List ReadRange))
+      → IfSome holds (λ content. HasOpenRoot content root) → ReadsRoot first middle
+      → (last ≡ middle) ⊎ AsksCheckpoint root middle last → ReadsAtOpening holds first last
+  reads_size holds first middle last roomy read (inl same) = reads_root holds first last (inr (same ∙ read))
+  reads_size holds first middle last roomy read (inr asked) =
+      reads_found holds first last roomy (read_then_asked first middle last read asked)
+
+  -- both, and then the checkpoint or nothing
   pub reads_checkpoint : (holds : Option Content) (first middle last : Option (List ReadRange))
-      → IfSome holds (λ content. HasOpenRoot content root) → AsksCheckpoint root first middle
+      → IfSome holds (λ content. HasOpenRoot content root) → AsksFound (Some root) first middle
       → (last ≡ middle) ⊎ TakesCheckpoint root middle last → ReadsAtOpening holds first last
-  reads_checkpoint holds first middle last roomy asked (inl same) = reads_size holds first last roomy (inr (same ∙ asked))
+  reads_checkpoint holds first middle last roomy asked (inl same) = reads_found holds first last roomy (same ∙ asked)
   reads_checkpoint holds first middle last roomy asked (inr taken) =
-      (checkpoint_ranges root, one_read holds roomy, both_read first last (asked_then_taken first middle last asked taken))
+      (opening_root ∷ checkpoint_ranges root, one_read holds roomy, asked_then_taken first middle last asked taken)
     where
       one_read : (held : Option Content) → IfSome held (λ content. HasOpenRoot content root)
-          → IfSome held (λ content. AllByRecursion (IsOpeningRange content) (checkpoint_ranges root))
+          → IfSome held (λ content. AllByRecursion (IsOpeningRange content) (opening_root ∷ checkpoint_ranges root))
       one_read None h = tt
-      one_read (Some content) h = (size_opening content h, (checkpoint_opening content h, tt))
+      one_read (Some content) h = (inl refl, (size_opening content h, (checkpoint_opening content h, tt)))
 
   module _ (checkpoint : Checkpoint) where
     index_opening : (content : Content) → HasOpenRoot content root → HasCheckpoint content root checkpoint → (read : List ReadRange)
         → AllByRecursion (IsIndexRange content root.version checkpoint) read → AllByRecursion (IsOpeningRange content) read
     index_opening content roomy has [] a = tt
     index_opening content roomy has (range ∷ read) a =
-        ((root, roomy, inr (checkpoint, has, a.0)), index_opening content roomy has read a.1)
+        (inr (root, roomy, inr (checkpoint, has, a.0)), index_opening content roomy has read a.1)
 
-    -- the checkpoint, and then of its index
+    -- root and checkpoint, and then of its index
     pub reads_index : (holds : Option Content) (before between after : Option (List ReadRange))
         → IfSome holds (λ content. HasOpenRoot content root) → IfSome holds (λ content. HasCheckpoint content root checkpoint)
         → ReadsCheckpoint root before between → ReadsIndex holds root.version checkpoint between after
         → ReadsAtOpening holds before after
     reads_index holds before between after roomy has first later = (
-      checkpoint_ranges root ++ later.0,
+      opening_root ∷ checkpoint_ranges root ++ later.0,
       all_opening holds roomy has later.1,
       later.2
-          ∙ (ap (option_map (λ earlier. earlier ++ later.0)) (both_read before between first)
-          ∙ reads_joined before (checkpoint_ranges root) later.0),
+          ∙ (ap (option_map (λ (earlier : List ReadRange). earlier ++ later.0)) first
+          ∙ reads_joined before (opening_root ∷ checkpoint_ranges root) later.0),
     )
       where
         all_opening : (held : Option Content) → IfSome held (λ content. HasOpenRoot content root)
             → IfSome held (λ content. HasCheckpoint content root checkpoint)
             → IfSome held (λ content. AllByRecursion (IsIndexRange content root.version checkpoint) later.0)
-            → IfSome held (λ content. AllByRecursion (IsOpeningRange content) (checkpoint_ranges root ++ later.0))
+            → IfSome held (λ content. AllByRecursion (IsOpeningRange content) (opening_root ∷ checkpoint_ranges root ++ later.0))
         all_opening None o h a = tt
         all_opening (Some content) o h a =
-            (size_opening content o, (checkpoint_opening content o, index_opening content o h later.0 a))
+            (inl refl, (size_opening content o, (checkpoint_opening content o, index_opening content o h later.0 a)))
 
     pub opens_saved : (holds : Option Content) (before between after : Option (List ReadRange)) (read : List ReadRange)
         → IfSome holds (λ content. HasOpenRoot content root) → IfSome holds (λ content. HasCheckpoint content root checkpoint)
         → ReadsCheckpoint root before between → IfSome holds (λ content. OpensIndex content root.version checkpoint read)
         → after ≡ option_map (λ earlier. earlier ++ read) between → IsOpen holds before after
     opens_saved holds before between after read roomy has first opened later = (
-      checkpoint_ranges root ++ read,
+      opening_root ∷ checkpoint_ranges root ++ read,
       all_open holds roomy has opened,
       later
-          ∙ (ap (option_map (λ earlier. earlier ++ read)) (both_read before between first)
-          ∙ reads_joined before (checkpoint_ranges root) read),
+          ∙ (ap (option_map (λ (earlier : List ReadRange). earlier ++ read)) first
+          ∙ reads_joined before (opening_root ∷ checkpoint_ranges root) read),
     )
       where
         all_open : (held : Option Content) → IfSome held (λ content. HasOpenRoot content root)
             → IfSome held (λ content. HasCheckpoint content root checkpoint)
             → IfSome held (λ content. OpensIndex content root.version checkpoint read)
-            → IfSome held (λ content. Opens content (checkpoint_ranges root ++ read))
+            → IfSome held (λ content. Opens content (opening_root ∷ checkpoint_ranges root ++ read))
         all_open None o h a = tt
         all_open (Some content) o h a = inr (record {
           root = root;
@@ -208,7 +227,7 @@ checkpoint_read (Some content) root buffer given found e there long spelled none
 
 -- what is opened has a checkpoint of the size that the root says
 pub sized_checkpoint : (holds : Option Content) (root : Root) → IfSome holds (FindsRoot (Some root))
-    → IfSome holds (λ content. HasSize content root) → IfSome holds HasSizedCheckpoint
+    → IfSome holds (λ content. HasSize root.size (content.blobs root.checkpoint)) → IfSome holds HasSizedCheckpoint
 sized_checkpoint None root found sized = tt
 sized_checkpoint (Some content) root found sized = (root, found, sized)
 
@@ -256,7 +275,7 @@ pub error_passed : {T E : Type 0} (r : Result T E) (e : E) → IsErrAnd r (λ f.
 error_passed (Ok x) e h = absurd h
 error_passed (Err f) e h = ap (λ g. Err g) h
 
--- where memory is wanting, that was passed on
+-- out of memory, that was passed on
 pub memory_passed : {T : Type 0} (fault : BeginFault) (r : Result T BeginFault) → r ≡ Err fault → r ≡ Err faults.NoMemory
     → fault ≡ faults.NoMemory
 memory_passed fault r is e = cc (is, e)

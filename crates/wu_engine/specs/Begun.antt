@@ -14,7 +14,8 @@ use Rattle.wu_engine.specs.declared.faults.BeginFault.TheVariants.{Damaged, NoMe
 use Rattle.wu_engine.specs.Crashes.{IsImageOf}
 use Rattle.wu_engine.specs.Going.{Goes}
 use Rattle.wu_engine.specs.Opened.{IsEngineSaved}
-use Rattle.wu_engine.specs.Opening.{HasRoot, HasSizedCheckpoint, HoldsImage, IsBeginCause, IsOpen, IsSpentWhere, ReadsAtOpening}
+use Rattle.wu_engine.specs.Opening.{HasRoot, HasSizedCheckpoint, HoldsImage, IsBeginCause, IsOpen, IsSpentWhere, ReadsAtMostRoot}
+use Rattle.wu_engine.specs.Opening.{ReadsAtOpening}
 use Rattle.wu_engine.specs.Stands.{Stands}
 
 -- Over an image of a state engine and store stand for it. Over whatever the store holds, the engine goes on from there, and where there is
@@ -51,11 +52,11 @@ pub record SyncsOnly {D : Type 0} (Store : stores.Ghosts D) (old new : D) (resul
   pub survives : Leaves (Store.moments old) (Store.moments new) (IsLeft (Store.moments old))
   pub durable : (s : State) → HoldsImage (Store.holds old) s → OnOk result (LeavesNow (Store.moments new) (IsImageOf s))
 
--- Each fault comes only by its cause, that a store is spent exactly then, and an image of a state is never called damaged. Once something
--- was read, memory is wanting only where the checkpoint has the size that the root says.
+-- Each fault comes only by its cause, that a store is spent exactly then, and an image of a state is never called damaged. Once anything
+-- but the root was read, the call is out of memory only where the checkpoint has the size that the root says.
 pub record FailsByCause {D : Type 0} (Store : stores.Ghosts D) (old new : D) (result : Result Engine BeginFault) : Type 0 where
   pub calm : OnOk result (Store.faults new ≡ Store.faults old)
   pub cause : IfErr result (IsBeginCause (Store.holds old) (Store.faults old) (Store.faults new))
-  pub memory : result ≡ Err NoMemory → (Store.reads new ≡ Store.reads old) ⊎ IfSome (Store.holds old) HasSizedCheckpoint
+  pub memory : result ≡ Err NoMemory → ReadsAtMostRoot (Store.reads old) (Store.reads new) ⊎ IfSome (Store.holds old) HasSizedCheckpoint
   pub spent : IsSpentWhere (Store.holds old) result
   pub undamaged : (s : State) → HoldsImage (Store.holds old) s → (blob : ℕ) → result ≢ Err (Damaged blob)

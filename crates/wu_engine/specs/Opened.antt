@@ -17,7 +17,7 @@ use Rattle.wu_query.specs.Records.{Records}
 use Rattle.wu_engine.specs.declared.engines.Engine.{Engine}
 use Rattle.wu_engine.specs.declared.faults.BeginFault.{BeginFault}
 use Rattle.wu_engine.specs.declared.faults.BeginFault.TheVariants.{NoMemory, StoreFault, Damaged, Spent}
-use Rattle.wu_engine.specs.Opening.{HasCheckpoint, HasOpenRoot, checkpoint_range, spent_of}
+use Rattle.wu_engine.specs.Opening.{HasCheckpoint, HasOpenRoot, ReadsRoot, checkpoint_range, checkpoint_ranges, opening_root, spent_of}
 
 -- ---- the root
 
@@ -75,19 +75,19 @@ pub record MatchesRoot (root : Root) (checkpoint : Checkpoint) : Type 0 where
 abbrev pub AsksCheckpoint : Root → Option (List ReadRange) → Option (List ReadRange) → Type 0
 AsksCheckpoint root before after = after ≡ option_map (λ earlier. earlier ++ asked_size root.checkpoint ∷ []) before
 
--- the same of the root that was found, if there is one
+-- the root was read and then that size asked, if a root was found, and nothing else
 abbrev pub AsksFound : Option Root → Option (List ReadRange) → Option (List ReadRange) → Type 0
-AsksFound None before after = after ≡ before
-AsksFound (Some root) before after = AsksCheckpoint root before after
+AsksFound None before after = ReadsRoot before after
+AsksFound (Some root) before after =
+    after ≡ option_map (λ earlier. earlier ++ opening_root ∷ asked_size root.checkpoint ∷ []) before
 
 -- the checkpoint was read, and nothing else
 abbrev pub TakesCheckpoint : Root → Option (List ReadRange) → Option (List ReadRange) → Type 0
 TakesCheckpoint root before after = after ≡ option_map (λ earlier. earlier ++ checkpoint_range root ∷ []) before
 
--- its size was asked and then it was read, and nothing else
+-- the root was read, the size of the checkpoint asked and then that was read, and nothing else
 abbrev pub ReadsCheckpoint : Root → Option (List ReadRange) → Option (List ReadRange) → Type 0
-ReadsCheckpoint root before after =
-    after ≡ option_map (λ earlier. earlier ++ checkpoint_range root ∷ []) (option_map (λ earlier. earlier ++ asked_size root.checkpoint ∷ []) before)
+ReadsCheckpoint root before after = after ≡ option_map (λ earlier. earlier ++ opening_root ∷ checkpoint_ranges root) before
 
 -- ---- the engine
 

@@ -1,14 +1,14 @@
 -- How an engine is opened over a store: from the root, the checkpoint that it names, and then, by the version of the root, the parts or
 -- the texts that this records.
-use Rattle.std.specs.Prelude.{◌≡◌, ◌⊎◌, ℕ, ◌≤◌, nat_le, if◌then◌else◌, List, [], ◌∷◌, ◌++◌, length, Option, None, Some, IfSome, option_map}
+use Rattle.std.specs.Prelude.{◌≡◌, ◌⊎◌, ℕ, ◌≤◌, nat_le, if◌then◌else◌, List, [], ◌∷◌, ◌++◌, Option, None, Some, IfSome, option_map}
 use Rattle.std.specs.Prelude.{Err, Result}
 use Rattle.std.specs.List.{AllByRecursion}
 use Rattle.wu_base.specs.declared.troubles.Trouble.{Trouble}
 use Rattle.wu_base.specs.declared.troubles.Trouble.TheVariants as troubles
 use Rattle.wu_base.specs.declared.limits.TheConstants.{SPENT_AT, BLOBS_SPENT_AT}
-use Rattle.wu_outside.specs.Content.{Content}
+use Rattle.wu_outside.specs.Content.{Content, HasSize}
 use Rattle.wu_outside.specs.Faults.{Rose}
-use Rattle.wu_outside.specs.Ranges.{asked_size}
+use Rattle.wu_outside.specs.Ranges.{asked_size, root_range}
 use Rattle.wu_outside.specs.declared.traits.Fault.{Fault}
 use Rattle.wu_outside.specs.declared.traits.Fault.TheVariants as calls
 use Rattle.wu_outside.specs.declared.ranges.ReadRange.{ReadRange}
@@ -17,6 +17,7 @@ use Rattle.wu_part.specs.Directories.{PartDirectory}
 use Rattle.wu_parts.specs.Loading.{AreOpened, IsFirstBroken, IsFrontOf}
 use Rattle.wu_image.specs.declared.checkpoints.Checkpoint.{Checkpoint}
 use Rattle.wu_image.specs.declared.roots.Root.{Root}
+use Rattle.wu_image.specs.declared.roots.TheConstants.{ROOT_LEN}
 use Rattle.wu_image.specs.Breakage.{IsBrokenCheckpoint, IsBrokenRoot}
 use Rattle.wu_image.specs.Images.{IsCheckpointOf, IsImage}
 use Rattle.wu_image.specs.Roots.{SpellsRoot}
@@ -50,13 +51,9 @@ pub record HasOpenRoot (content : Content) (root : Root) : Type 0 where
   pub has : HasRoot content root
   pub unspent : spent_of root ≡ None
 
--- the blob that the root names for its checkpoint has the size that it says
-abbrev pub HasSize : Content → Root → Type 0
-HasSize content root = option_map length (content.blobs root.checkpoint) ≡ Some root.size
-
 -- the content's root leaves room, and its checkpoint has the size that it says
 abbrev pub HasSizedCheckpoint : Content → Type 0
-HasSizedCheckpoint content = (root : Root) × HasOpenRoot content root × HasSize content root
+HasSizedCheckpoint content = (root : Root) × HasOpenRoot content root × HasSize root.size (content.blobs root.checkpoint)
 
 -- the checkpoint that the root names
 pub record HasCheckpoint (content : Content) (root : Root) (checkpoint : Checkpoint) : Type 0 where
@@ -65,6 +62,18 @@ pub record HasCheckpoint (content : Content) (root : Root) (checkpoint : Checkpo
   pub spelled : IsCheckpointOf root bytes checkpoint
 
 -- ---- what is read
+
+-- the root, in one read, with room for as many bytes as a root has
+abbrev pub opening_root : ReadRange
+opening_root = root_range ROOT_LEN
+
+-- the root was read, and nothing else
+abbrev pub ReadsRoot : Option (List ReadRange) → Option (List ReadRange) → Type 0
+ReadsRoot before after = after ≡ option_map (λ earlier. earlier ++ opening_root ∷ []) before
+
+-- nothing was read, or no more than the root
+abbrev pub ReadsAtMostRoot : Option (List ReadRange) → Option (List ReadRange) → Type 0
+ReadsAtMostRoot before after = (after ≡ before) ⊎ ReadsRoot before after
 
 -- the checkpoint, whole, in one read
 abbrev pub checkpoint_range : Root → ReadRange
@@ -80,12 +89,13 @@ IsIndexRange content version checkpoint range =
     (version ≡ 2) × SomeOf (IsFrontOf (Some content) range) checkpoint.parts
     ⊎ (version ≡ 1) × IsTextOfOne checkpoint.files range
 
--- the range is the checkpoint's or its size's, or one of its index
+-- the range is the root's, the checkpoint's or its size's, or one of its index
 abbrev pub IsOpeningRange : Content → ReadRange → Type 0
 IsOpeningRange content range =
-    (root : Root) × HasOpenRoot content root
+    (opening_root ≡ range)
+    ⊎ ((root : Root) × HasOpenRoot content root
     × (SomeOf (λ one. one ≡ range) (checkpoint_ranges root)
-    ⊎ ((checkpoint : Checkpoint) × HasCheckpoint content root checkpoint × IsIndexRange content root.version checkpoint range))
+    ⊎ ((checkpoint : Checkpoint) × HasCheckpoint content root checkpoint × IsIndexRange content root.version checkpoint range)))
 
 -- nothing else was read
 abbrev pub ReadsAtOpening : Option Content → Option (List ReadRange) → Option (List ReadRange) → Type 0
@@ -113,7 +123,7 @@ OpensIndex content version checkpoint read =
     (version ≡ 2) × ((directories : List PartDirectory) × AreOpened (Some content) checkpoint.parts directories read)
     ⊎ (version ≡ 1) × OpensTexts content checkpoint.files read
 
--- the root leaves room, and its checkpoint and that one's index were opened, which took these reads
+-- the root was read first, and leaves room; its checkpoint and that one's index were opened, which took these reads
 pub record OpensSaved (content : Content) (read : List ReadRange) : Type 0 where
   pub root : Root
   pub found : HasOpenRoot content root
@@ -121,11 +131,11 @@ pub record OpensSaved (content : Content) (read : List ReadRange) : Type 0 where
   pub saved : HasCheckpoint content root checkpoint
   pub later : List ReadRange
   pub index : OpensIndex content root.version checkpoint later
-  pub read_are : read ≡ checkpoint_ranges root ++ later
+  pub read_are : read ≡ opening_root ∷ checkpoint_ranges root ++ later
 
--- there is no root, and nothing is read; or what was saved is opened
+-- the root was read, and there is none; or what was saved is opened
 abbrev pub Opens : Content → List ReadRange → Type 0
-Opens content read = (content.root ≡ None) × (read ≡ []) ⊎ OpensSaved content read
+Opens content read = (content.root ≡ None) × (read ≡ opening_root ∷ []) ⊎ OpensSaved content read
 
 -- the content was opened, and that was read
 abbrev pub IsOpen : Option Content → Option (List ReadRange) → Option (List ReadRange) → Type 0

@@ -48,13 +48,13 @@ impl Engine {
     /// postings. A store without a root is that of the root directory alone, without a posting. The
     /// engine keeps the allocator.
     ///
-    /// The store is synced, and then the root is read, the checkpoint that it names, and of each
-    /// part, from left to right, the header and the directory: no text and no block. Where the root
-    /// is of the first version, no part is read, but each text that isn't empty, whole, in the
+    /// The store is synced, and then the root is read, once, the checkpoint that it names, and of
+    /// each part, from left to right, the header and the directory: no text and no block. Where the
+    /// root is of the first version, no part is read, but each text that isn't empty, whole, in the
     /// order of their addresses, and indexed anew: its terms are in memory then, and the parts'
     /// blobs are no longer needed. Nothing else is changed.
     ///
-    /// A fault of the store and want of memory end it at any step; memory is taken for the
+    /// A fault of the store and out of memory end it at any step; memory is taken for the
     /// checkpoint only once its size was asked and is the root's. Else `Damaged` comes exactly where
     /// one of these is broken, with the first of them: the root, which is blob 0, the checkpoint,
     /// the parts from left to right or, by the root's version, the texts. `Spent` comes after the

@@ -6,7 +6,7 @@ ghost use Rattle.std.specs.List.Sorted.{IsStrictlySortedBy};
 ghost use Rattle.std.specs.Ordering.{nat_cmp};
 ghost use Rattle.lru.specs.LruCache.{lru_cache};
 ghost use Rattle.wu_base.specs.declared.limits.TheConstants.{BLOBS_SPENT_AT, SPENT_AT};
-ghost use Rattle.wu_outside.specs.Content.{Content};
+ghost use Rattle.wu_outside.specs.Content.{Content, HasSize};
 ghost use Rattle.wu_outside.specs.Reading.{OnlyReads};
 ghost use Rattle.wu_outside.specs.declared.ranges.ReadRange.{ReadRange};
 ghost use Rattle.wu_space.specs.Addresses.{AreLive};
@@ -19,9 +19,9 @@ ghost use Rattle.wu_engine.specs.Opened.{AsksCheckpoint, AsksFound, FindsRoot, H
 ghost use Rattle.wu_engine.specs.Opened.{IsEngineFor, IsEngineSaved, IsFirstEngine, IsGivenRoot};
 ghost use Rattle.wu_engine.specs.Opened.{IsSettled, MatchesRoot, IsRootFault, IsSpentBy};
 ghost use Rattle.wu_engine.specs.Opened.{TakesCheckpoint, numbered, ranges_recorded};
-ghost use Rattle.wu_engine.specs.Opening.{HasCheckpoint, HasOpenRoot, HasSize, HoldsImage};
-ghost use Rattle.wu_engine.specs.Opening.{IsBeginCause, IsOpen, IsSpentWhere, ReadsAtOpening};
-ghost use Rattle.wu_engine.specs.Opening.{spent_of};
+ghost use Rattle.wu_engine.specs.Opening.{HasCheckpoint, HasOpenRoot, HoldsImage};
+ghost use Rattle.wu_engine.specs.Opening.{IsBeginCause, IsOpen, IsSpentWhere, ReadsAtMostRoot};
+ghost use Rattle.wu_engine.specs.Opening.{ReadsAtOpening, ReadsRoot, spent_of};
 ghost use Rattle.wu_engine.specs.Stands.{Stands};
 
 use crate::engines::Engine;
@@ -46,11 +46,13 @@ pub(crate) fn find_saved<D: Store>(store: &mut D) -> Result<Option<Root>, BeginF
     requires { IsSettled (D.moments store.old) }
     ensures found { IfOk result (λ found. IfSome (D.holds store.old) (FindsRoot found)) }
     ensures room { IfOk result (λ found. IfSome found HasRoom) }
-    ensures size { IfOk result (λ found. IfSome found (λ root. IfSome (D.holds store.old) (λ content. HasSize content root))) }
+    ensures size { IfOk result (λ found. IfSome found (λ root. IfSome (D.holds store.old)
+        (λ content. HasSize root.size (content.blobs root.checkpoint)))) }
     ensures store { OnlyReads D.Store store.old store.new result }
     ensures asked { IfOk result (λ found. AsksFound found (D.reads store.old) (D.reads store.new)) }
     ensures reads { ReadsAtOpening (D.holds store.old) (D.reads store.old) (D.reads store.new) }
-    ensures memory { result ≡ Err WantsMemory → D.reads store.new ≡ D.reads store.old }
+    ensures memory { result ≡ Err WantsMemory
+        → ReadsAtMostRoot (D.reads store.old) (D.reads store.new) }
     ensures cause { IfErr result (IsBeginCause (D.holds store.old) (D.faults store.old) (D.faults store.new)) }
     ensures spent { IsSpentWhere (D.holds store.old) result }
 {
@@ -67,7 +69,8 @@ pub(crate) fn find_saved<D: Store>(store: &mut D) -> Result<Option<Root>, BeginF
 /// says. Out of memory nothing was asked.
 fn ask_size<D: Store>(store: &mut D, root: &Root) -> Result<(), BeginFault>
     requires { IfSome (D.holds store.old) (λ content. HasOpenRoot content root.now) }
-    ensures size { OnOk result (IfSome (D.holds store.old) (λ content. HasSize content root.now)) }
+    ensures size { OnOk result (IfSome (D.holds store.old)
+        (λ content. HasSize root.now.size (content.blobs root.now.checkpoint))) }
     ensures store { OnlyReads D.Store store.old store.new result }
     ensures asked { OnOk result (AsksCheckpoint root.now (D.reads store.old) (D.reads store.new)) }
     ensures reads { (D.reads store.new ≡ D.reads store.old) ⊎ AsksCheckpoint root.now (D.reads store.old) (D.reads store.new) }
@@ -82,14 +85,15 @@ fn ask_size<D: Store>(store: &mut D, root: &Root) -> Result<(), BeginFault>
     }
 }
 
-/// The store's root, where it has one. It is broken where it is no root's spelling, and leaves room where its
-/// numbers are below the limits.
+/// The store's root, where it has one, in one read. It is broken where it is no root's spelling,
+/// and leaves room where its numbers are below the limits.
 fn open_root<D: Store>(store: &mut D) -> Result<Option<Root>, BeginFault>
     requires { IsSettled (D.moments store.old) }
     ensures found { IfOk result (λ found. IfSome (D.holds store.old) (FindsRoot found)) }
     ensures room { IfOk result (λ found. IfSome found HasRoom) }
     ensures store { OnlyReads D.Store store.old store.new result }
-    ensures reads { D.reads store.new ≡ D.reads store.old }
+    ensures noted { OnOk result (ReadsRoot (D.reads store.old) (D.reads store.new)) }
+    ensures reads { ReadsAtMostRoot (D.reads store.old) (D.reads store.new) }
     ensures cause { IfErr result (IsBeginCause (D.holds store.old) (D.faults store.old) (D.faults store.new)) }
     ensures spent { IsSpentWhere (D.holds store.old) result }
 {
@@ -163,11 +167,13 @@ pub(crate) fn open_saved<D: Store>(
 ) -> Result<Engine, BeginFault>
     requires room { HasRoom root.now }
     requires found { IfSome (D.holds store.old) (λ content. HasOpenRoot content root.now) }
-    requires size { IfSome (D.holds store.old) (λ content. HasSize content root.now) }
+    requires size { IfSome (D.holds store.old)
+        (λ content. HasSize root.now.size (content.blobs root.now.checkpoint)) }
     ensures stands { IfOk result (λ engine. (s : State) → HoldsImage (D.holds store.old) s → Stands engine (D.holds store.new) s) }
     ensures goes { IfOk result (λ engine. (content : Content)
         → D.holds store.old ≡ Some content → Goes engine content (D.holds store.new)) }
-    ensures open { OnOk result ((earlier : Option (List ReadRange)) → AsksCheckpoint root.now earlier (D.reads store.old)
+    ensures open { OnOk result ((earlier : Option (List ReadRange))
+        → AsksFound (Some root.now) earlier (D.reads store.old)
         → IsOpen (D.holds store.old) earlier (D.reads store.new)) }
     ensures next { IfOk result (λ engine. engine.space.next < SPENT_AT) }
     ensures next_blob { IfOk result (λ engine. engine.parts.next_blob < BLOBS_SPENT_AT) }
@@ -179,7 +185,8 @@ pub(crate) fn open_saved<D: Store>(
     ensures goes_on { IfOk result (λ engine. engine.ended ≡ None) }
     ensures saved { IfOk result (λ engine. IfSome (D.holds store.old) (λ content. IsEngineSaved content root.now engine)) }
     ensures store { OnlyReads D.Store store.old store.new result }
-    ensures reads { (earlier : Option (List ReadRange)) → AsksCheckpoint root.now earlier (D.reads store.old)
+    ensures reads { (earlier : Option (List ReadRange))
+        → AsksFound (Some root.now) earlier (D.reads store.old)
         → ReadsAtOpening (D.holds store.old) earlier (D.reads store.new) }
     ensures cause { IfErr result (IsBeginCause (D.holds store.old) (D.faults store.old) (D.faults store.new)) }
 {
@@ -240,7 +247,8 @@ fn open_checkpoint<D: Store>(
     root: &Root,
 ) -> Result<Checkpoint, BeginFault>
     requires found { IfSome (D.holds store.old) (λ content. HasOpenRoot content root.now) }
-    requires size { IfSome (D.holds store.old) (λ content. HasSize content root.now) }
+    requires size { IfSome (D.holds store.old)
+        (λ content. HasSize root.now.size (content.blobs root.now.checkpoint)) }
     ensures saved { IfOk result (λ checkpoint. IfSome (D.holds store.old) (λ content. HasCheckpoint content root.now checkpoint)) }
     ensures rules { IfOk result IsCheckpoint }
     ensures own { IfOk result (MatchesRoot root.now) }
@@ -271,7 +279,8 @@ fn own_checkpoint(found: Option<Checkpoint>, root: &Root) -> Result<Checkpoint, 
 /// The bytes of the checkpoint that the root names, all in one read. It is broken where there are fewer then than
 /// its size was. Out of memory nothing was read.
 fn named_blob<D: Store>(alloc: Global, store: &mut D, root: &Root) -> Result<Vec<u8>, BeginFault>
-    requires size { IfSome (D.holds store.old) (λ content. HasSize content root.now) }
+    requires size { IfSome (D.holds store.old)
+        (λ content. HasSize root.now.size (content.blobs root.now.checkpoint)) }
     ensures bytes { IfOk result (λ bytes. IfSome (D.holds store.old)
         (λ content. content.blobs root.now.checkpoint ≡ Some bytes.items)) }
     ensures size { IfOk result (λ bytes. length bytes.items ≡ root.now.size) }

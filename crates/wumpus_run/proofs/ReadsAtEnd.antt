@@ -26,7 +26,7 @@ use Rattle.wu_query.specs.States.{State}
 use Rattle.wu_engine.specs.declared.engines.Engine.{Engine}
 use Rattle.wu_engine.specs.Opening.{ReadsAtOpening}
 use Rattle.wu_engine.specs.Stands.{Stands}
-use Rattle.wu_engine.proofs.OpenedStates.{reads_nothing as unread_at_opening}
+use Rattle.wu_engine.proofs.OpenedStates.{reads_root}
 use Rattle.wumpus_run.specs.declared.statuses.Status.{Status}
 use Rattle.wumpus_run.specs.declared.statuses.Status.TheVariants.{Done, NoMemory, StoreFault, Spent}
 use Rattle.wumpus_run.specs.Crashes.{IsUnopened, met_by}
@@ -265,5 +265,5 @@ pub permitted_untouched : (start : State) (settings : Option Settings) (before :
     → ReadsPermitted start NoMemory settings before before reads reads
 permitted_untouched start None before reads = tt
 permitted_untouched start (Some told) before reads =
-    permitted_unopened told start NoMemory before before reads reads (unread_at_opening before.holds reads reads refl)
+    permitted_unopened told start NoMemory before before reads reads (reads_root before.holds reads reads (inl refl))
     (IsUnopened-untouched before)

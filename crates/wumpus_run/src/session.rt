@@ -95,10 +95,10 @@ pub fn run<I: Source, O: Sink, D: Store>(
     ensures turns { FromImage (D.holds store.old) (λ s. AnswersInTurn s result (settings_of (texts_of words.now))
         (moment I.Source O.Sink D.Store source.old sink.old store.old)
         (moment I.Source O.Sink D.Store source.new sink.new store.new)) }
-    // Of the store this was read, in turn: at opening the root's checkpoint and the fronts of its
-    // parts, each once, and then item by item: for a query blocks of its terms where her files are,
-    // and then, from the first one on and each once, the texts of which a line is shown, or for an
-    // export those of all files of her view; for background work blocks of its terms; for any of
+    // Of the store this was read, in turn: at opening the root, its checkpoint and the fronts of
+    // its parts, each once, and then item by item: for a query blocks of its terms where her files
+    // are, and then, from the first one on and each once, the texts of which a line is shown, or for
+    // an export those of all files of her view; for background work blocks of its terms; for any of
     // them it may be fewer, or none. That is so for the items that were answered, whose replies the
     // sink gained, and for the next one, where it was under way; for a later one nothing was read.
     // A session that ended at its opening, before it took or wrote a byte, read nothing but some of

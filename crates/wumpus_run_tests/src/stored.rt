@@ -62,7 +62,7 @@ impl Stored {
         Ok(text)
     }
 
-    /// The same, and what it reads of blobs.
+    /// The same, and what it reads of the root and of blobs.
     pub fn reading(
         &mut self,
         alloc: Global,

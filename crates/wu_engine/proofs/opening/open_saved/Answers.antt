@@ -1,10 +1,10 @@
 use Rattle.std.proofs.Common.{◌∙◌, ap, arith, List}
-use Rattle.std.specs.Prelude.{Option}
+use Rattle.std.specs.Prelude.{Option, Some}
 use Rattle.wu_outside.specs.declared.ranges.ReadRange.{ReadRange}
 use Rattle.wu_space.specs.Addresses.{Addresses}
 use Rattle.wu_parts.specs.Contents.{Contents}
 use Rattle.wu_query.proofs.PassedCauses.{err_from}
-use Rattle.wu_engine.specs.Opened.{AsksCheckpoint}
+use Rattle.wu_engine.specs.Opened.{AsksFound}
 use Rattle.wu_engine.specs.Opening.{ReadsAtOpening}
 use Rattle.wu_engine.proofs.BegunEngines.{saved_engine}
 use Rattle.wu_engine.proofs.OpenedIndexes.{index_cause, index_goes, index_numbers, index_open, index_reads, index_stands}
@@ -115,7 +115,7 @@ returns-clause-store g c = record {
 
 -- once the index was asked for, what was read are the checkpoint and some of its ranges
 reads_then : (g : given.Over) (c : After-open_index g) (earlier : Option (List ReadRange))
-    → AsksCheckpoint c.args.root.now earlier (g.D.Store.reads c.args.store.now)
+    → AsksFound (Some c.args.root.now) earlier (g.D.Store.reads c.args.store.now)
     → ReadsAtOpening (g.D.Store.holds c.args.store.now) earlier (g.D.Store.reads c.open_index.new.store)
 reads_then g c earlier asked =
     let reads = g.D.Store.reads in

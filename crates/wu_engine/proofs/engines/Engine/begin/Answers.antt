@@ -9,7 +9,7 @@ use Rattle.wu_engine.proofs.BegunEngines.{saved_by_root, saved_without}
 use Rattle.wu_engine.proofs.EarlierBlobs.{drawn_by_root, drawn_without}
 use Rattle.wu_engine.proofs.GoingAtFirst.{first_goes}
 use Rattle.wu_engine.proofs.ImageStates.{first_stands}
-use Rattle.wu_engine.proofs.OpenedStates.{error_passed, is_settled, never_damaged, on_any_ok, opens_nothing, reads_nothing, spent_on}
+use Rattle.wu_engine.proofs.OpenedStates.{error_passed, is_settled, never_damaged, on_any_ok, opens_first, reads_root, spent_on}
 use Rattle.wu_engine.proofs.OpenedStates.{memory_passed, never_spent, on_no_ok, sized_checkpoint, syncs_only}
 use Rattle.wu_engine.proofs.engines.Engine.begin.Goals as goal
 
@@ -97,12 +97,11 @@ returns-in_err-find_saved-clause-fails g c =
     let holds = g.D.Store.holds in
     let faults = g.D.Store.faults in
     let its = rw (c.sync.ensures.same, c.in_ok-sync.ensures.cause.calm) at c.in_err-find_saved.ensures.cause in
+    let few = rw c.sync.ensures.unread at c.in_err-find_saved.ensures.memory in
     record {
       calm = on_no_ok _ _ r passed;
       cause = err_from _ r fault passed its;
-      memory = λ e. inl (
-          c.in_err-find_saved.ensures.memory (ap (λ (f : BeginFault). Err f) (memory_passed fault r (error_passed r fault passed) e))
-          ∙ c.sync.ensures.unread);
+      memory = λ e. inl (few (ap (λ (f : BeginFault). Err f) (memory_passed fault r (error_passed r fault passed) e)));
       spent = spent_on _ _ (holds c.args.store.now) (holds c.sync.new.self) fault r c.sync.ensures.same (error_passed r fault passed)
           c.in_err-find_saved.ensures.spent;
       undamaged = never_damaged _ (faults c.args.store.now) (faults c.find_saved.new.store) r (err_from _ r fault passed its);
@@ -130,11 +129,11 @@ pub returns-in_ok-open_first-in-None-clause-reads : goal.returns-in_ok-open_firs
 returns-in_ok-open_first-in-None-clause-reads g c =
     let reads = g.D.Store.reads in
     let holds = g.D.Store.holds c.args.store.now in
-    let unread = (rw c.in-None.is at c.in_ok-find_saved.ensures.asked) ∙ c.sync.ensures.unread in
+    let read = rw (c.sync.ensures.unread, c.in-None.is) at c.in_ok-find_saved.ensures.asked in
     record {
-      opened = opens_nothing holds (reads c.args.store.now) (reads c.find_saved.new.store) unread
+      opened = opens_first holds (reads c.args.store.now) (reads c.find_saved.new.store) read
           (rw (c.sync.ensures.same, c.in-None.is) at c.in_ok-find_saved.ensures.found);
-      reads = reads_nothing holds (reads c.args.store.now) (reads c.find_saved.new.store) unread;
+      reads = reads_root holds (reads c.args.store.now) (reads c.find_saved.new.store) (inr read);
     }
 
 pub returns-in_ok-open_first-in-None-clause-store : goal.returns-in_ok-open_first-in-None-clause-store
@@ -159,8 +158,8 @@ returns-in_ok-open_first-in-None-clause-fails g c = record {
 pub returns-in_err-open_first-in-None-clause-reads : goal.returns-in_err-open_first-in-None-clause-reads
 returns-in_err-open_first-in-None-clause-reads g c = record {
   opened = on_no_ok _ _ c.from_residual-in_err-open_first-in-None.result c.from_residual-in_err-open_first-in-None.ensures.1;
-  reads = reads_nothing (g.D.Store.holds c.args.store.now) (g.D.Store.reads c.args.store.now) (g.D.Store.reads c.find_saved.new.store)
-      ((rw c.in-None.is at c.in_ok-find_saved.ensures.asked) ∙ c.sync.ensures.unread);
+  reads = reads_root (g.D.Store.holds c.args.store.now) (g.D.Store.reads c.args.store.now) (g.D.Store.reads c.find_saved.new.store)
+      (inr (rw (c.sync.ensures.unread, c.in-None.is) at c.in_ok-find_saved.ensures.asked));
 }
 
 pub returns-in_err-open_first-in-None-clause-fails : goal.returns-in_err-open_first-in-None-clause-fails
@@ -180,7 +179,7 @@ returns-in_err-open_first-in-None-clause-fails g c =
     record {
       calm = on_any_ok _ r calm;
       cause = err_from _ r NoMemory passed its;
-      memory = λ e. inl ((rw c.in-None.is at c.in_ok-find_saved.ensures.asked) ∙ c.sync.ensures.unread);
+      memory = λ e. inl (inr (rw (c.sync.ensures.unread, c.in-None.is) at c.in_ok-find_saved.ensures.asked));
       spent = never_spent _ _ holds _ r (rw c.sync.ensures.same at c.in_ok-find_saved.ensures.spent);
       undamaged = never_damaged _ (faults c.args.store.now) (faults c.find_saved.new.store) r (err_from _ r NoMemory passed its);
     }
