@@ -105,7 +105,8 @@ fn keep_view(
     kept.prepare(tree, space, uid)?;
     match kept.kept(uid) {
         Some(frames) => count_paths(alloc, &frames.seen),
-        None => Err(NoMemory),
+        // It was just prepared.
+        None => unreachable!(),
     }
 }
 
