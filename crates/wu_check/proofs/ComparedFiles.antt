@@ -116,6 +116,15 @@ module _ (files : List FileRec) (i : ℕ) (within : i < length files) where
         (subst (λ (b : Bool). MatchBool b (IsWrongText content its → ⊥) (IsWrongText content its)) fails here))
         texts (told_before _ holds told same found)
 
+    pub turn_sound : (whole : Bool) → whole ≡ true → IfSome holds (λ content. AreSoundTexts content (take i files))
+        → IfSome told (λ content. MatchBool whole (IsWrongText content its → ⊥) (IsWrongText content its))
+        → IfSome holds (λ content. AreSoundTexts content (take (i + 1) files))
+    turn_sound whole passes texts found =
+        told_both holds
+        (λ content before here. texts_more content before
+        (subst (λ (b : Bool). MatchBool b (IsWrongText content its → ⊥) (IsWrongText content its)) passes here))
+        texts (told_before _ holds told same found)
+
     module _ (lists : List TermList) (all : Bool) (before : IfSome holds (λ content. AreSoundTexts content (take i files)
         × MatchBool all (AllByRecursion (HasTokens content lists) (take i files))
         (AllByRecursion (HasTokens content lists) (take i files) → ⊥))) where

@@ -1,4 +1,5 @@
 pub mod AddressOrder
+pub mod CheckedRanges
 pub mod CheckedStores
 pub mod ComparedFiles
 pub mod ComparedTexts
@@ -18,6 +19,8 @@ pub mod PartLists
 pub mod PartedFiles
 pub mod Placing
 pub mod ReadLists
+pub mod ReadRanges
+pub mod ReadWalks
 pub mod SoundImages
 pub mod SoundParts
 pub mod SoundPostings

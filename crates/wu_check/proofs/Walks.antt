@@ -34,6 +34,22 @@ pub record IsReached (files : List FileRec) (parts : List PartRec) (index done :
   pub next : ℕ
   pub left : SpansAscend from (drop index parts) next
 
+-- none is behind it at first
+pub reached_none : (files : List FileRec) (parts : List PartRec) → (next : ℕ) × SpansAscend 0 parts next → IsReached files parts 0 0
+reached_none files parts spans = record {
+  within = omega arith;
+  from = 0;
+  before = tt;
+  behind = all_from files;
+  passed = tt;
+  next = spans.0;
+  left = spans.1;
+}
+  where
+    all_from : (some : List FileRec) → AllByRecursion (λ file. 0 ≤ file.range.start) some
+    all_from [] = tt
+    all_from (file ∷ some) = (omega arith, all_from some)
+
 -- a range that lies in a part of the list, and in none of those before
 lies_past : (file : FileRec) (from : ℕ) (before rest : List PartRec) → 0 < file.range.len → from ≤ file.range.start
     → AllByRecursion (λ part. part.high < from) before → list_any (λ part. lies_in file.range part) (before ++ rest) ≡ true

@@ -2,6 +2,8 @@
 
 -- what is wrong in a store, and what is counted of one in which nothing is
 pub mod Wrong
+-- which ranges of a store are read, and in which order
+pub mod Reads
 -- which terms the lists of a part have at which addresses
 pub mod Terms
 -- the state of which a store holds an image

@@ -4,6 +4,8 @@ ghost use Rattle.wu_outside.specs.Faults.{HasFaultCause};
 ghost use Rattle.wu_outside.specs.Reading.{OnlyReads};
 ghost use Rattle.wu_image.specs.Checkpoints.{IsCheckpoint};
 ghost use Rattle.wu_check.specs.Checking.{IsIndexChecked};
+ghost use Rattle.wu_check.specs.Reads.{AreOfIndex, AreRead, AreUnderRoot, IfSound, MayBeOfIndex, MayBeRead};
+ghost use Rattle.wu_check.specs.Reads.{MayBeUnderRoot, ReadsAllOf, ReadsSomeOf};
 ghost use Rattle.wu_check.specs.Wrong.{IsChecked, IsRootOf};
 
 use crate::counting::{counted_parts, counts};
@@ -40,6 +42,10 @@ pub fn check<D: Store>(alloc: Global, store: &mut D) -> Result<Checked, Fault>
     ensures checked { IfOk result (λ checked. IfSome (D.holds store.old)
         (λ content. IsChecked content checked)) }
     ensures reads { OnlyReads D.Store store.old store.new result }
+    ensures ranges { IfSome (D.holds store.old) (λ content. ReadsSomeOf (MayBeRead content)
+        (D.reads store.old) (D.reads store.new)) }
+    ensures whole { IfOk result (λ checked. IfSound checked (IfSome (D.holds store.old)
+        (λ content. ReadsAllOf (AreRead content) (D.reads store.old) (D.reads store.new)))) }
     ensures cause { HasFaultCause (D.faults store.old) (D.faults store.new) result }
 {
     let mut bytes = [0; ROOT_LEN];
@@ -63,6 +69,11 @@ fn check_saved<D: Store>(alloc: Global, store: &mut D, root: &Root) -> Result<Ch
     ensures checked { IfOk result (λ checked. IfSome (D.holds store.old)
         (λ content. IsChecked content checked)) }
     ensures reads { OnlyReads D.Store store.old store.new result }
+    ensures ranges { IfSome (D.holds store.old) (λ content.
+        ReadsSomeOf (MayBeUnderRoot content root.now) (D.reads store.old) (D.reads store.new)) }
+    ensures whole { IfOk result (λ checked. IfSound checked (IfSome (D.holds store.old)
+        (λ content. ReadsAllOf (AreUnderRoot content root.now)
+        (D.reads store.old) (D.reads store.new)))) }
     ensures cause { HasFaultCause (D.faults store.old) (D.faults store.new) result }
 {
     match checkpoint_of(alloc, store, root)? {
@@ -85,6 +96,10 @@ fn check_index<D: Store>(
     ensures checked { IfOk result (λ checked. IfSome (D.holds store.old)
         (λ content. IsIndexChecked content version checkpoint.now checked)) }
     ensures reads { OnlyReads D.Store store.old store.new result }
+    ensures ranges { ReadsSomeOf (MayBeOfIndex version checkpoint.now)
+        (D.reads store.old) (D.reads store.new) }
+    ensures whole { IfOk result (λ checked. IfSound checked
+        (ReadsAllOf (AreOfIndex version checkpoint.now) (D.reads store.old) (D.reads store.new))) }
     ensures cause { HasFaultCause (D.faults store.old) (D.faults store.new) result }
 {
     let files = by_address(alloc, checkpoint.files.as_slice())?;

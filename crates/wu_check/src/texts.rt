@@ -1,5 +1,5 @@
 //! The texts that a checkpoint records, as a store has them.
-ghost use Rattle.std.specs.Prelude.{◌≡◌, ◌≢◌, ◌<◌, ◌≤◌, [], List, MatchBool, IfNone, IfOk, IfSome, length};
+ghost use Rattle.std.specs.Prelude.{◌≡◌, ◌≢◌, ◌<◌, ◌≤◌, true, [], List, Ok, MatchBool, IfNone, IfOk, IfSome, length};
 ghost use Rattle.std.specs.List.{AllByRecursion};
 ghost use Rattle.wu_base.specs.declared.addresses.Range.{Range};
 ghost use Rattle.wu_base.specs.declared.addresses.TermList.{TermList};
@@ -9,6 +9,7 @@ ghost use Rattle.wu_outside.specs.Reading.{OnlyReads};
 ghost use Rattle.wu_token.specs.Tokens.{tokens_of};
 ghost use Rattle.wu_image.specs.Images.{IsByAddress};
 ghost use Rattle.wu_check.specs.Places.{IsAtPlace};
+ghost use Rattle.wu_check.specs.Reads.{ReadsAll, ReadsSome, text_ranges, texts_ranges};
 ghost use Rattle.wu_check.specs.Terms.{HaveTermsFrom};
 ghost use Rattle.wu_check.specs.Walking.{FindsText, IsCompared, IsIndexFor, IsReadable, IsTextIn};
 ghost use Rattle.wu_check.specs.Wrong.{IsWrongText};
@@ -42,6 +43,9 @@ fn text_of<D: Store>(alloc: Global, store: &mut D, file: &FileRec) -> Result<Opt
     ensures none { IfOk result (λ found. IfNone found (IfSome (D.holds store.old)
         (λ content. IsWrongText content file.now))) }
     ensures reads { OnlyReads D.Store store.old store.new result }
+    ensures ranges { ReadsSome (text_ranges file.now) (D.reads store.old) (D.reads store.new) }
+    ensures whole { IfOk result (λ found. IfSome found (λ _.
+        ReadsAll (text_ranges file.now) (D.reads store.old) (D.reads store.new))) }
     ensures cause { HasFaultCause (D.faults store.old) (D.faults store.new) result }
 {
     if file.blob == 0 {
@@ -65,6 +69,9 @@ fn is_whole<D: Store>(alloc: Global, store: &mut D, file: &FileRec) -> Result<bo
         (λ content. MatchBool whole (IsWrongText content file.now → ⊥)
         (IsWrongText content file.now))) }
     ensures reads { OnlyReads D.Store store.old store.new result }
+    ensures ranges { ReadsSome (text_ranges file.now) (D.reads store.old) (D.reads store.new) }
+    ensures read { result ≡ Ok true
+        → ReadsAll (text_ranges file.now) (D.reads store.old) (D.reads store.new) }
     ensures cause { HasFaultCause (D.faults store.old) (D.faults store.new) result }
 {
     match text_of(alloc, store, file)? {
@@ -83,6 +90,9 @@ pub(crate) fn first_broken<D: Store>(
     ensures found { IfOk result (λ found. IfSome (D.holds store.old)
         (λ content. FindsText content files.now found)) }
     ensures reads { OnlyReads D.Store store.old store.new result }
+    ensures ranges { ReadsSome (texts_ranges files.now) (D.reads store.old) (D.reads store.new) }
+    ensures whole { IfOk result (λ found. IfNone found
+        (ReadsAll (texts_ranges files.now) (D.reads store.old) (D.reads store.new))) }
     ensures cause { HasFaultCause (D.faults store.old) (D.faults store.new) result }
 {
     for file in files {
@@ -107,6 +117,9 @@ pub(crate) fn compare_file<D: Store>(
         → IsIndexFor ranges lists index.now → IsAtPlace ranges place file.now.range
         → IfSome (D.holds store.old) (λ content. IsCompared content lists file.now found)) }
     ensures reads { OnlyReads D.Store store.old store.new result }
+    ensures ranges { ReadsSome (text_ranges file.now) (D.reads store.old) (D.reads store.new) }
+    ensures whole { IfOk result (λ found. IfSome found (λ _.
+        ReadsAll (text_ranges file.now) (D.reads store.old) (D.reads store.new))) }
     ensures cause { HasFaultCause (D.faults store.old) (D.faults store.new) result }
 {
     match text_of(alloc, store, file)? {

@@ -1,5 +1,5 @@
 //! The walk over the parts of the index and the texts, side by side by address.
-ghost use Rattle.std.specs.Prelude.{◌≡◌, ℕ, ◌+◌, ◌-◌, ◌<◌, ◌≤◌, true, List, MatchBool, IfNone, IfOk, IfSome, Some, length, drop, take, sum_by};
+ghost use Rattle.std.specs.Prelude.{◌≡◌, ℕ, ◌+◌, ◌-◌, ◌<◌, ◌≤◌, ◌++◌, true, List, Ok, MatchBool, IfNone, IfOk, IfSome, Some, length, drop, take, sum_by};
 ghost use Rattle.std.specs.List.{AllByRecursion, list_any};
 ghost use Rattle.std.specs.List.Sorted.{IsNonDecreasingBy};
 ghost use Rattle.wu_base.specs.declared.addresses.TermList.{TermList};
@@ -10,6 +10,7 @@ ghost use Rattle.wu_part.specs.Parts.{IsBroken};
 ghost use Rattle.wu_image.specs.LayoutRules.{SpansAscend, lies_in};
 ghost use Rattle.wu_check.specs.Indexing.{IsIndexOf};
 ghost use Rattle.wu_check.specs.Places.{total_of};
+ghost use Rattle.wu_check.specs.Reads.{ReadsAll, ReadsSome, index_ranges, part_ranges, texts_ranges};
 ghost use Rattle.wu_check.specs.Walking.{AreCompared, FindsText, FindsWrong, HasIndex, IsIndexFor, IsReadable, IsVerdict, leftmost_of, ranges_of, verdict_if, verdict_without};
 
 use crate::blobs::read_whole;
@@ -51,6 +52,10 @@ pub(crate) fn first_wrong<D: Store>(
     ensures found { IfOk result (λ found. IfSome (D.holds store.old)
         (λ content. FindsWrong content files.now parts.now found)) }
     ensures reads { OnlyReads D.Store store.old store.new result }
+    ensures ranges { ReadsSome (index_ranges files.now parts.now)
+        (D.reads store.old) (D.reads store.new) }
+    ensures whole { IfOk result (λ found. IfNone found
+        (ReadsAll (index_ranges files.now parts.now) (D.reads store.old) (D.reads store.new))) }
     ensures cause { HasFaultCause (D.faults store.old) (D.faults store.new) result }
 {
     let mut wrong = None;
@@ -105,6 +110,11 @@ fn check_part<D: Store>(
     ensures verdict { IfOk result (λ verdict. IfSome (D.holds store.old)
         (λ content. IsVerdict content part.now files.now verdict)) }
     ensures reads { OnlyReads D.Store store.old store.new result }
+    ensures ranges { ReadsSome (part_ranges part.now ++ texts_ranges files.now)
+        (D.reads store.old) (D.reads store.new) }
+    ensures whole { result ≡ Ok Verdict.Sound
+        → ReadsAll (part_ranges part.now ++ texts_ranges files.now)
+        (D.reads store.old) (D.reads store.new) }
     ensures cause { HasFaultCause (D.faults store.old) (D.faults store.new) result }
 {
     match index_of(alloc, store, part, files)? {
@@ -140,6 +150,9 @@ fn index_of<D: Store>(
     ensures none { IfOk result (λ found. IfNone found (IfSome (D.holds store.old)
         (λ content. IsBroken part.now (content.blobs part.now.blob)))) }
     ensures reads { OnlyReads D.Store store.old store.new result }
+    ensures ranges { ReadsSome (part_ranges part.now) (D.reads store.old) (D.reads store.new) }
+    ensures whole { IfOk result (λ found. IfSome found (λ _.
+        ReadsAll (part_ranges part.now) (D.reads store.old) (D.reads store.new))) }
     ensures cause { HasFaultCause (D.faults store.old) (D.faults store.new) result }
 {
     // No part has an address from the limit on, so one that is recorded so is broken.
@@ -178,6 +191,9 @@ fn compare_texts<D: Store>(
         → IsIndexFor (ranges_of files.now) lists index.now
         → IfSome (D.holds store.old) (λ content. AreCompared content lists files.now verdict)) }
     ensures reads { OnlyReads D.Store store.old store.new result }
+    ensures ranges { ReadsSome (texts_ranges files.now) (D.reads store.old) (D.reads store.new) }
+    ensures whole { result ≡ Ok Verdict.Sound
+        → ReadsAll (texts_ranges files.now) (D.reads store.old) (D.reads store.new) }
     ensures cause { HasFaultCause (D.faults store.old) (D.faults store.new) result }
 {
     let mut same = true;

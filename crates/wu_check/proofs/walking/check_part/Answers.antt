@@ -1,4 +1,6 @@
 use Rattle.std.proofs.lemmas.Result.{IfOk-weaker}
+use Rattle.wu_check.specs.Reads.{part_ranges, texts_ranges}
+use Rattle.wu_check.proofs.ReadRanges.{all_joined, some_front, some_joined}
 use Rattle.wu_check.proofs.SoundParts.{verdict_told}
 use Rattle.wu_check.proofs.walking.check_part.Goals as goal
 
@@ -10,3 +12,33 @@ returns-in-Some-clause-verdict g c =
     c.args.part.now c.args.files.now c.in-Some.index verdict c.requires.apart c.requires.lie
     (rw c.in-Some.is at c.in_ok-index.ensures.found) compared)
     c.compare_texts.ensures.compared
+
+pub returns-in_err-index-clause-ranges : goal.returns-in_err-index-clause-ranges
+returns-in_err-index-clause-ranges g c =
+    let reads = g.D.Store.reads in
+    some_front (part_ranges c.args.part.now) (texts_ranges c.args.files.now) (reads c.args.store.now) (reads c.index_of.new.store)
+    c.index_of.ensures.ranges
+
+pub returns-in-Some-clause-ranges : goal.returns-in-Some-clause-ranges
+returns-in-Some-clause-ranges g c =
+    let reads = g.D.Store.reads in
+    some_joined (part_ranges c.args.part.now) (texts_ranges c.args.files.now) (reads c.args.store.now) (reads c.index_of.new.store)
+    (reads c.compare_texts.new.store) c.index_of.ensures.ranges c.compare_texts.ensures.ranges
+
+pub returns-in-Some-clause-whole : goal.returns-in-Some-clause-whole
+returns-in-Some-clause-whole g c = λ sound.
+    let reads = g.D.Store.reads in
+    all_joined (part_ranges c.args.part.now) (texts_ranges c.args.files.now) (reads c.args.store.now) (reads c.index_of.new.store)
+    (reads c.compare_texts.new.store) (rw c.in-Some.is at c.in_ok-index.ensures.whole) (c.compare_texts.ensures.whole sound)
+
+pub returns-in_err-first_broken-in-None-clause-ranges : goal.returns-in_err-first_broken-in-None-clause-ranges
+returns-in_err-first_broken-in-None-clause-ranges g c =
+    let reads = g.D.Store.reads in
+    some_joined (part_ranges c.args.part.now) (texts_ranges c.args.files.now) (reads c.args.store.now) (reads c.index_of.new.store)
+    (reads c.first_broken.new.store) c.index_of.ensures.ranges c.first_broken.ensures.ranges
+
+pub returns-in_ok-first_broken-in-None-clause-ranges : goal.returns-in_ok-first_broken-in-None-clause-ranges
+returns-in_ok-first_broken-in-None-clause-ranges g c =
+    let reads = g.D.Store.reads in
+    some_joined (part_ranges c.args.part.now) (texts_ranges c.args.files.now) (reads c.args.store.now) (reads c.index_of.new.store)
+    (reads c.first_broken.new.store) c.index_of.ensures.ranges c.first_broken.ensures.ranges

@@ -3,6 +3,7 @@ use Rattle.std.specs.Prelude.{IfSome, MatchBool}
 use Rattle.std.specs.List.{AllByRecursion}
 use Rattle.wu_base.specs.declared.addresses.TermList.{TermList}
 use Rattle.wu_check.specs.Places.{total_of}
+use Rattle.wu_check.specs.Reads.{ReadsAll, texts_ranges}
 use Rattle.wu_check.specs.Walking.{IsIndexFor, ranges_of}
 use Rattle.wu_check.specs.Wrong.{AreSoundTexts, HasTokens}
 use Rattle.wu_check.proofs.walking.compare_texts.Given as goal
@@ -17,4 +18,5 @@ invariant-loop-file g l = record {
       (λ content. AreSoundTexts content (take l.file-index l.files)
       × MatchBool l.same (AllByRecursion (HasTokens content lists) (take l.file-index l.files))
       (AllByRecursion (HasTokens content lists) (take l.file-index l.files) → ⊥));
+  ranges : ReadsAll (texts_ranges (take l.file-index l.files)) (g.D.Store.reads l.fn.store) (g.D.Store.reads l.store);
 }
