@@ -1,5 +1,5 @@
 -- The ranges that a check reads, put together.
-use Rattle.std.proofs.Common.{◌≡◌, ℕ, List, [], ◌∷◌, ◌++◌, length, take, refl, ap, sym, ◌∙◌, subst, inl, inr, ⊎_elim, take_all, arith}
+use Rattle.std.proofs.Common.{◌≡◌, ℕ, List, [], ◌∷◌, ◌++◌, length, refl, ap, sym, ◌∙◌, subst, inl, inr, ⊎_elim, take_all, arith}
 use Rattle.std.specs.Prelude.{Option, None, Some, IfSome}
 use Rattle.std.proofs.lemmas.List.{append-nil}
 use Rattle.wu_base.specs.declared.addresses.PartRec.{PartRec}
@@ -60,8 +60,7 @@ module _ (root : Root) (checkpoint : Checkpoint) (first next last : Option (List
       let some : ReadsSome (its_blob ++ index.0) first last =
       some_joined its_blob index.0 first next last (some_all its_blob first next read) index.2 in
       ⊎_elim
-      (λ (none : index.0 ≡ []).
-      (
+      (λ (none : index.0 ≡ []). (
         its_blob,
         inl refl,
         subst (λ (rs : List ReadRange). ReadsSome rs first last)
@@ -81,8 +80,7 @@ module _ (root : Root) (checkpoint : Checkpoint) (first next last : Option (List
       → IfSound checked (IfSome holds (λ content. ReadsAllOf (AreUnderRoot content root) first last))
   saved_all holds saved (Sound files live stored parts) index =
       told_more holds
-      (λ content has.
-      (
+      (λ content has. (
         its_blob ++ index.0,
         its_checkpoint content has index.0 index.1,
         all_joined its_blob index.0 first next last read index.2,
@@ -152,8 +150,7 @@ module _ (holds : Option Content) (root : Root) (its : IfSome holds (λ content.
       → IfSome holds (λ content. ReadsSomeOf (MayBeRead content) first last)
   from_some under =
       told_both holds
-      (λ content is some.
-      (
+      (λ content is some. (
         root_range ROOT_LEN ∷ some.0,
         inr (record { root = root; its = is; under = some.0; are_under = some.1; are = refl }),
         some_joined (root_range ROOT_LEN ∷ []) some.0 first next last (some_all (root_range ROOT_LEN ∷ []) first next read) some.2,
@@ -164,8 +161,7 @@ module _ (holds : Option Content) (root : Root) (its : IfSome holds (λ content.
       → IfSound checked (IfSome holds (λ content. ReadsAllOf (AreRead content) first last))
   from_all (Sound files live stored parts) under =
       told_both holds
-      (λ content is all.
-      (
+      (λ content is all. (
         root_range ROOT_LEN ∷ all.0,
         inr (record { root = root; its = is; under = all.0; are_under = all.1; are = refl }),
         all_joined (root_range ROOT_LEN ∷ []) all.0 first next last read all.2,

@@ -4,8 +4,9 @@ ghost use Rattle.wu_outside.specs.Faults.{HasFaultCause};
 ghost use Rattle.wu_outside.specs.Reading.{OnlyReads};
 ghost use Rattle.wu_image.specs.Checkpoints.{IsCheckpoint};
 ghost use Rattle.wu_check.specs.Checking.{IsIndexChecked};
-ghost use Rattle.wu_check.specs.Reads.{AreOfIndex, AreRead, AreUnderRoot, IfSound, MayBeOfIndex, MayBeRead};
-ghost use Rattle.wu_check.specs.Reads.{MayBeUnderRoot, ReadsAllOf, ReadsSomeOf};
+ghost use Rattle.wu_check.specs.Reads.{AreOfIndex, AreRead, AreUnderRoot, IfSound};
+ghost use Rattle.wu_check.specs.Reads.{MayBeOfIndex, MayBeRead, MayBeUnderRoot};
+ghost use Rattle.wu_check.specs.Reads.{ReadsAllOf, ReadsSomeOf};
 ghost use Rattle.wu_check.specs.Wrong.{IsChecked, IsRootOf};
 
 use crate::counting::{counted_parts, counts};
@@ -35,9 +36,10 @@ pub enum Checked {
 
 /// Reads the whole store, and finds the first that is wrong in it, in this order: the root, the
 /// checkpoint, the texts by their addresses, the parts from left to right; or counts what it holds.
-/// A store without a root is sound, and holds nothing. Errors are a fault of the store, only where
-/// its count rose, and out of memory. Takes memory for the checkpoint, for one part and for one
-/// text.
+/// A store without a root is sound, and holds nothing. Each blob is read at most once, after its
+/// size was asked: the checkpoint, and then each part from left to right, and behind it the texts
+/// of its span. Errors are a fault of the store, only where its count rose, and out of memory.
+/// Takes memory for the checkpoint, for one part and for one text.
 pub fn check<D: Store>(alloc: Global, store: &mut D) -> Result<Checked, Fault>
     ensures checked { IfOk result (λ checked. IfSome (D.holds store.old)
         (λ content. IsChecked content checked)) }

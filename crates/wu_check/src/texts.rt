@@ -1,5 +1,6 @@
 //! The texts that a checkpoint records, as a store has them.
-ghost use Rattle.std.specs.Prelude.{◌≡◌, ◌≢◌, ◌<◌, ◌≤◌, true, [], List, Ok, MatchBool, IfNone, IfOk, IfSome, length};
+ghost use Rattle.std.specs.Prelude.{◌≡◌, ◌≢◌, ◌<◌, ◌≤◌, true, [], List, Ok, MatchBool};
+ghost use Rattle.std.specs.Prelude.{IfNone, IfOk, IfSome, length};
 ghost use Rattle.std.specs.List.{AllByRecursion};
 ghost use Rattle.wu_base.specs.declared.addresses.Range.{Range};
 ghost use Rattle.wu_base.specs.declared.addresses.TermList.{TermList};

@@ -1,5 +1,6 @@
 //! The walk over the parts of the index and the texts, side by side by address.
-ghost use Rattle.std.specs.Prelude.{◌≡◌, ℕ, ◌+◌, ◌-◌, ◌<◌, ◌≤◌, ◌++◌, true, List, Ok, MatchBool, IfNone, IfOk, IfSome, Some, length, drop, take, sum_by};
+ghost use Rattle.std.specs.Prelude.{◌≡◌, ℕ, ◌+◌, ◌-◌, ◌<◌, ◌≤◌, ◌++◌, true, List, Ok, MatchBool};
+ghost use Rattle.std.specs.Prelude.{IfNone, IfOk, IfSome, Some, length, drop, take, sum_by};
 ghost use Rattle.std.specs.List.{AllByRecursion, list_any};
 ghost use Rattle.std.specs.List.Sorted.{IsNonDecreasingBy};
 ghost use Rattle.wu_base.specs.declared.addresses.TermList.{TermList};
@@ -10,7 +11,8 @@ ghost use Rattle.wu_part.specs.Parts.{IsBroken};
 ghost use Rattle.wu_image.specs.LayoutRules.{SpansAscend, lies_in};
 ghost use Rattle.wu_check.specs.Indexing.{IsIndexOf};
 ghost use Rattle.wu_check.specs.Places.{total_of};
-ghost use Rattle.wu_check.specs.Reads.{ReadsAll, ReadsSome, index_ranges, part_ranges, texts_ranges};
+ghost use Rattle.wu_check.specs.Reads.{ReadsAll, ReadsSome, index_ranges, part_ranges};
+ghost use Rattle.wu_check.specs.Reads.{texts_ranges};
 ghost use Rattle.wu_check.specs.Walking.{AreCompared, FindsText, FindsWrong, HasIndex, IsIndexFor, IsReadable, IsVerdict, leftmost_of, ranges_of, verdict_if, verdict_without};
 
 use crate::blobs::read_whole;

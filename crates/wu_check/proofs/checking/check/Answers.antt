@@ -1,9 +1,7 @@
 use Rattle.std.proofs.Common.{◌≡◌, length, rules}
 use Rattle.std.proofs.lemmas.Result.{IfOk-weaker}
-use Rattle.std.specs.Prelude.{IfSome}
 use Rattle.wu_image.specs.declared.roots.TheConstants.{ROOT_LEN}
-use Rattle.wu_check.specs.Reads.{AreUnderRoot, IfSound, MayBeUnderRoot, ReadsAllOf, ReadsSomeOf}
-use Rattle.wu_check.specs.Wrong.{IsRootOf}
+use Rattle.wu_check.specs.Reads.{MayBeUnderRoot, ReadsSomeOf}
 use Rattle.wu_check.proofs.CheckedRanges.{from_all, from_some, none_there, root_alone, root_found, root_read, root_unread}
 use Rattle.wu_check.proofs.ToldContents.{told_before}
 use Rattle.wu_check.proofs.checking.check.Goals as goal

@@ -9,7 +9,8 @@ use Rattle.wu_check.specs.Walking.{FindsPart, FindsText}
 use Rattle.wu_check.specs.Wrong.{AreSoundTexts}
 use Rattle.wu_check.proofs.ReadWalks.{IsReadTo, if_none, read_none, walk_all, walk_more, walk_some, walk_stopped}
 use Rattle.wu_check.proofs.SoundParts.{LiesIn}
-use Rattle.wu_check.proofs.Walks.{ends_parts, ends_text, no_part, own_apart, own_lie, reached_next, reached_none, turn_parts, turn_text, turn_texts}
+use Rattle.wu_check.proofs.Walks.{ends_parts, ends_text, no_part, own_apart, own_lie, reached_next, reached_none}
+use Rattle.wu_check.proofs.Walks.{turn_parts, turn_text, turn_texts}
 use Rattle.wu_check.proofs.walking.first_wrong.Goals as goal
 
 pub check_part-requires-clause-apart : goal.check_part-requires-clause-apart
