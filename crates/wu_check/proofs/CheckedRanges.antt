@@ -1,7 +1,6 @@
 -- The ranges that a check reads, put together.
-use Rattle.std.proofs.Common.{◌≡◌, ℕ, List, [], ◌∷◌, ◌++◌, length, refl, ap, sym, ◌∙◌, subst, inl, inr, ⊎_elim, take_all, arith}
+use Rattle.std.proofs.Common.{◌≡◌, ℕ, List, [], ◌∷◌, ◌++◌, length, refl, ap, sym, ◌∙◌, subst, inl, inr, take_all, arith}
 use Rattle.std.specs.Prelude.{Option, None, Some, IfSome}
-use Rattle.std.proofs.lemmas.List.{append-nil}
 use Rattle.wu_base.specs.declared.addresses.PartRec.{PartRec}
 use Rattle.wu_layout.proofs.EntryLemmas.{IfSome-all}
 use Rattle.wu_outside.specs.Content.{Content, GivesRoot}
@@ -16,9 +15,9 @@ use Rattle.wu_image.specs.Roots.{SpellsRoot}
 use Rattle.wu_check.specs.declared.checking.Checked.{Checked}
 use Rattle.wu_check.specs.declared.checking.Checked.TheVariants.{Sound, Broken}
 use Rattle.wu_check.specs.Reads.{AreOfIndex, AreRead, AreUnderRoot, IfSound, MayBeOfIndex, MayBeRead, MayBeUnderRoot, ReadsAll, ReadsAllOf}
-use Rattle.wu_check.specs.Reads.{ReadsSome, ReadsSomeOf, index_ranges, whole_blob}
+use Rattle.wu_check.specs.Reads.{ReadsFront, ReadsFrontOf, TriesIndex, index_ranges, whole_blob}
 use Rattle.wu_check.specs.Wrong.{HasCheckpoint, IsRootOf, parts_of}
-use Rattle.wu_check.proofs.ReadRanges.{all_joined, some_all, some_joined, some_none}
+use Rattle.wu_check.proofs.ReadRanges.{all_joined, front_all, front_joined, front_none}
 use Rattle.wu_check.proofs.ToldContents.{told_both, told_more}
 
 pub if_sound : {P : Type 0} (checked : Checked) → P → IfSound checked P
@@ -28,61 +27,65 @@ if_sound (Broken blob) p = tt
 -- ---- what a checkpoint records
 
 pub index_none : (version : ℕ) (checkpoint : Checkpoint) (before after : Option (List ReadRange)) → after ≡ before
-    → ReadsSomeOf (MayBeOfIndex version checkpoint) before after
-index_none version checkpoint before after same = ([], inl refl, some_none [] before after same)
+    → ReadsFrontOf (MayBeOfIndex version checkpoint) before after
+index_none version checkpoint before after same = ([], inl refl, front_none [] before after same)
 
 module _ (version : ℕ) (checkpoint : Checkpoint) (order : List FileRec) (by_address : IsByAddress checkpoint.files order)
     (parts : List PartRec) (counted : parts ≡ parts_of version checkpoint) (before after : Option (List ReadRange)) where
-  its_index : AreOfIndex version checkpoint (index_ranges order parts)
-  its_index = record { order = order; by_address = by_address; are = ap (index_ranges order) counted }
-
-  pub index_some : ReadsSome (index_ranges order parts) before after → ReadsSomeOf (MayBeOfIndex version checkpoint) before after
-  index_some some = (index_ranges order parts, inr its_index, some)
+  pub index_some : ReadsFrontOf (TriesIndex order parts) before after → ReadsFrontOf (MayBeOfIndex version checkpoint) before after
+  index_some some = (
+    some.0,
+    inr (record {
+          order = order;
+          by_address = by_address;
+          are = subst (λ (l : List PartRec). TriesIndex order l some.0) counted some.1;
+        }),
+    some.2,
+  )
 
   pub index_all : ReadsAll (index_ranges order parts) before after → ReadsAllOf (AreOfIndex version checkpoint) before after
-  index_all all = (index_ranges order parts, its_index, all)
+  index_all all = (
+    index_ranges order parts,
+    record { order = order; by_address = by_address; are = ap (index_ranges order) counted },
+    all,
+  )
 
 -- ---- what is under a root
+
+-- of the checkpoint alone
+pub blob_alone : (root : Root) (holds : Option Content) (before after : Option (List ReadRange))
+    → ReadsFront (whole_blob root.checkpoint root.size) before after
+    → IfSome holds (λ content. ReadsFrontOf (MayBeUnderRoot content root) before after)
+blob_alone root holds before after some =
+    IfSome-all (λ content. ReadsFrontOf (MayBeUnderRoot content root) before after) holds
+    (λ content. (whole_blob root.checkpoint root.size, inl refl, some))
 
 module _ (root : Root) (checkpoint : Checkpoint) (first next last : Option (List ReadRange))
     (read : ReadsAll (whole_blob root.checkpoint root.size) first next) where
   abbrev its_blob : List ReadRange
   its_blob = whole_blob root.checkpoint root.size
 
-  its_checkpoint : (content : Content) → HasCheckpoint content root checkpoint → (later : List ReadRange)
-      → AreOfIndex root.version checkpoint later → AreUnderRoot content root (its_blob ++ later)
-  its_checkpoint content saved later index =
-      record { checkpoint = checkpoint; saved = saved; later = later; index = index; are = refl }
-
-  under_some : (content : Content) → HasCheckpoint content root checkpoint → ReadsSomeOf (MayBeOfIndex root.version checkpoint) next last
-      → ReadsSomeOf (MayBeUnderRoot content root) first last
-  under_some content saved index =
-      let some : ReadsSome (its_blob ++ index.0) first last =
-      some_joined its_blob index.0 first next last (some_all its_blob first next read) index.2 in
-      ⊎_elim
-      (λ (none : index.0 ≡ []). (
-        its_blob,
-        inl refl,
-        subst (λ (rs : List ReadRange). ReadsSome rs first last)
-            (ap (λ (rs : List ReadRange). its_blob ++ rs) none ∙ append-nil its_blob) some,
-      ))
-      (λ (are : AreOfIndex root.version checkpoint index.0).
-      (its_blob ++ index.0, inr (its_checkpoint content saved index.0 are), some))
-      index.1
-
   pub saved_some : (holds : Option Content) → IfSome holds (λ content. HasCheckpoint content root checkpoint)
-      → ReadsSomeOf (MayBeOfIndex root.version checkpoint) next last
-      → IfSome holds (λ content. ReadsSomeOf (MayBeUnderRoot content root) first last)
-  saved_some holds saved index = told_more holds (λ content has. under_some content has index) saved
+      → ReadsFrontOf (MayBeOfIndex root.version checkpoint) next last
+      → IfSome holds (λ content. ReadsFrontOf (MayBeUnderRoot content root) first last)
+  saved_some holds saved index =
+      told_more holds
+      (λ content has.
+      (
+        its_blob ++ index.0,
+        inr (record { checkpoint = checkpoint; saved = has; later = index.0; index = index.1; are = refl }),
+        front_joined its_blob index.0 first next last read index.2,
+      ))
+      saved
 
   pub saved_all : (holds : Option Content) → IfSome holds (λ content. HasCheckpoint content root checkpoint) → (checked : Checked)
       → IfSound checked (ReadsAllOf (AreOfIndex root.version checkpoint) next last)
-      → IfSound checked (IfSome holds (λ content. ReadsAllOf (AreUnderRoot content root) first last))
+      → IfSound checked (IfSome holds (λ content. ReadsAllOf (AreUnderRoot content AreOfIndex root) first last))
   saved_all holds saved (Sound files live stored parts) index =
       told_more holds
       (λ content has. (
         its_blob ++ index.0,
-        its_checkpoint content has index.0 index.1,
+        record { checkpoint = checkpoint; saved = has; later = index.0; index = index.1; are = refl },
         all_joined its_blob index.0 first next last read index.2,
       ))
       saved
@@ -96,16 +99,16 @@ pub root_read : (len : ℕ) (before after : Option (List ReadRange)) → len ≡
 root_read len before after same = subst (λ (n : ℕ). ReadsAll (root_range n ∷ []) before after) same
 
 pub root_unread : (holds : Option Content) (before after : Option (List ReadRange)) → after ≡ before
-    → IfSome holds (λ content. ReadsSomeOf (MayBeRead content) before after)
+    → IfSome holds (λ content. ReadsFrontOf (MayBeRead content) before after)
 root_unread holds before after same =
-    IfSome-all (λ content. ReadsSomeOf (MayBeRead content) before after) holds
-    (λ content. (root_range ROOT_LEN ∷ [], inl refl, some_none (root_range ROOT_LEN ∷ []) before after same))
+    IfSome-all (λ content. ReadsFrontOf (MayBeRead content) before after) holds
+    (λ content. (root_range ROOT_LEN ∷ [], inl refl, front_none (root_range ROOT_LEN ∷ []) before after same))
 
 pub root_alone : (holds : Option Content) (before after : Option (List ReadRange)) → ReadsAll (root_range ROOT_LEN ∷ []) before after
-    → IfSome holds (λ content. ReadsSomeOf (MayBeRead content) before after)
+    → IfSome holds (λ content. ReadsFrontOf (MayBeRead content) before after)
 root_alone holds before after read =
-    IfSome-all (λ content. ReadsSomeOf (MayBeRead content) before after) holds
-    (λ content. (root_range ROOT_LEN ∷ [], inl refl, some_all (root_range ROOT_LEN ∷ []) before after read))
+    IfSome-all (λ content. ReadsFrontOf (MayBeRead content) before after) holds
+    (λ content. (root_range ROOT_LEN ∷ [], inl refl, front_all (root_range ROOT_LEN ∷ []) before after read))
 
 root_absent : (root : Option (List ℕ)) (count : Option ℕ) (bytes : List ℕ) → count ≡ None → GivesRoot root count bytes → root ≡ None
 root_absent None count bytes none gives = refl
@@ -146,18 +149,18 @@ root_found holds root count n bytes is long spelled gives =
 
 module _ (holds : Option Content) (root : Root) (its : IfSome holds (λ content. IsRootOf content root))
     (first next last : Option (List ReadRange)) (read : ReadsAll (root_range ROOT_LEN ∷ []) first next) where
-  pub from_some : IfSome holds (λ content. ReadsSomeOf (MayBeUnderRoot content root) next last)
-      → IfSome holds (λ content. ReadsSomeOf (MayBeRead content) first last)
+  pub from_some : IfSome holds (λ content. ReadsFrontOf (MayBeUnderRoot content root) next last)
+      → IfSome holds (λ content. ReadsFrontOf (MayBeRead content) first last)
   from_some under =
       told_both holds
       (λ content is some. (
         root_range ROOT_LEN ∷ some.0,
         inr (record { root = root; its = is; under = some.0; are_under = some.1; are = refl }),
-        some_joined (root_range ROOT_LEN ∷ []) some.0 first next last (some_all (root_range ROOT_LEN ∷ []) first next read) some.2,
+        front_joined (root_range ROOT_LEN ∷ []) some.0 first next last read some.2,
       ))
       its under
 
-  pub from_all : (checked : Checked) → IfSound checked (IfSome holds (λ content. ReadsAllOf (AreUnderRoot content root) next last))
+  pub from_all : (checked : Checked) → IfSound checked (IfSome holds (λ content. ReadsAllOf (AreUnderRoot content AreOfIndex root) next last))
       → IfSound checked (IfSome holds (λ content. ReadsAllOf (AreRead content) first last))
   from_all (Sound files live stored parts) under =
       told_both holds

@@ -1,36 +1,14 @@
 -- Ranges that were read, one list of them after another.
-use Rattle.std.proofs.Common.{◌≡◌, ℕ, ◌+◌, ◌<◌, ◌≤◌, List, [], ◌∷◌, ◌++◌, length, get_or, take, drop, refl, ap, sym, ◌∙◌, subst, inl, inr}
-use Rattle.std.proofs.Common.{append_assoc, take_all, ⊎_elim}
+use Rattle.std.proofs.Common.{◌≡◌, ℕ, ◌+◌, ◌<◌, ◌≤◌, List, [], ◌∷◌, ◌++◌, length, get_or, take, drop, refl, ap, sym, ◌∙◌, subst}
+use Rattle.std.proofs.Common.{append_assoc, take_all}
 use Rattle.std.specs.Prelude.{Option, None, Some, option_map}
 use Rattle.std.proofs.lemmas.Grind.{flat_map-append}
 use Rattle.std.proofs.lemmas.List.{append-nil, take-append-drop, take_more}
-use Rattle.wu_layout.specs.Changes.{IsSublist}
 use Rattle.wu_outside.specs.Ranges.{asked_size}
 use Rattle.wu_outside.specs.declared.ranges.ReadRange.{ReadRange}
 use Rattle.wu_image.specs.declared.records.FileRec.{FileRec}
-use Rattle.wu_check.specs.Reads.{ReadsAll, ReadsSome, text_ranges, texts_ranges, whole_blob}
+use Rattle.wu_check.specs.Reads.{ReadsAll, ReadsFront, text_ranges, texts_ranges, whole_blob}
 use Rattle.wu_check.proofs.ComparedFiles.{no_file}
-
--- ---- sublists
-
-module _ {X : Type 0} where
-  same_sublist : (xs : List X) → IsSublist xs xs
-  same_sublist [] = tt
-  same_sublist (x ∷ xs) = inl (refl, same_sublist xs)
-
-  sublist_more : (xs : List X) (y : X) (ys : List X) → IsSublist xs ys → IsSublist xs (y ∷ ys)
-  sublist_more [] y ys a = tt
-  sublist_more (x ∷ xs) y ys a = inr a
-
-  sublist-append : (xs ys us vs : List X) → IsSublist xs ys → IsSublist us vs → IsSublist (xs ++ us) (ys ++ vs)
-  sublist-append [] [] us vs a b = b
-  sublist-append [] (y ∷ ys) us vs a b = sublist_more us y (ys ++ vs) (sublist-append [] ys us vs tt b)
-  sublist-append (x ∷ xs) [] us vs a b = absurd a
-  sublist-append (x ∷ xs) (y ∷ ys) us vs a b =
-      ⊎_elim
-      (λ h. inl (h.0, sublist-append xs ys us vs h.1 b))
-      (λ h. inr (sublist-append (x ∷ xs) ys us vs h b))
-      a
 
 -- ---- one after the other
 
@@ -44,39 +22,47 @@ all_joined xs ys None next last a b = b ∙ ap (option_map (λ (rs : List ReadRa
 all_joined xs ys (Some earlier) next last a b =
     b ∙ ap (option_map (λ (rs : List ReadRange). rs ++ ys)) a ∙ ap (λ (rs : List ReadRange). Some rs) (append_assoc earlier xs ys)
 
-pub some_all : (xs : List ReadRange) (before after : Option (List ReadRange)) → ReadsAll xs before after → ReadsSome xs before after
-some_all xs before after all = (xs, same_sublist xs, all)
+pub front_all : (xs : List ReadRange) (before after : Option (List ReadRange)) → ReadsAll xs before after → ReadsFront xs before after
+front_all xs before after all = (xs, [], append-nil xs, all)
 
-pub some_none : (xs : List ReadRange) (before after : Option (List ReadRange)) → after ≡ before → ReadsSome xs before after
-some_none xs before after same = ([], tt, all_none before after same)
+pub front_none : (xs : List ReadRange) (before after : Option (List ReadRange)) → after ≡ before → ReadsFront xs before after
+front_none xs before after same = ([], xs, refl, all_none before after same)
 
-pub some_joined : (xs ys : List ReadRange) (first next last : Option (List ReadRange)) → ReadsSome xs first next → ReadsSome ys next last
-    → ReadsSome (xs ++ ys) first last
-some_joined xs ys first next last a b =
-    (a.0 ++ b.0, sublist-append a.0 xs b.0 ys a.1 b.1, all_joined a.0 b.0 first next last a.2 b.2)
+-- all of the first list, and then some of the second
+pub front_joined : (xs ys : List ReadRange) (first next last : Option (List ReadRange)) → ReadsAll xs first next → ReadsFront ys next last
+    → ReadsFront (xs ++ ys) first last
+front_joined xs ys first next last all some = (
+  xs ++ some.0,
+  some.1,
+  append_assoc xs some.0 some.1 ∙ ap (λ (rs : List ReadRange). xs ++ rs) some.2,
+  all_joined xs some.0 first next last all some.3,
+)
 
--- those that were read stand at the front
-pub some_front : (xs ys : List ReadRange) (before after : Option (List ReadRange)) → ReadsSome xs before after
-    → ReadsSome (xs ++ ys) before after
-some_front xs ys before after some = some_joined xs ys before after after some (some_none ys after after refl)
+pub front_more : (xs ys : List ReadRange) (before after : Option (List ReadRange)) → ReadsFront xs before after
+    → ReadsFront (xs ++ ys) before after
+front_more xs ys before after some = (
+  some.0,
+  some.1 ++ ys,
+  sym (append_assoc some.0 some.1 ys) ∙ ap (λ (rs : List ReadRange). rs ++ ys) some.2,
+  some.3,
+)
 
 -- ---- a blob
 
 -- its size alone was asked
 pub size_asked : (blob size : ℕ) (first next last : Option (List ReadRange)) → ReadsAll (asked_size blob ∷ []) first next → last ≡ next
-    → ReadsSome (whole_blob blob size) first last
+    → ReadsFront (whole_blob blob size) first last
 size_asked blob size first next last asked same =
-    some_front (asked_size blob ∷ []) (record { blob = blob; at = 0; len = size } ∷ []) first last
-    (subst (λ (o : Option (List ReadRange)). ReadsSome (asked_size blob ∷ []) first o) (sym same)
-    (some_all (asked_size blob ∷ []) first next asked))
+    front_more (asked_size blob ∷ []) (record { blob = blob; at = 0; len = size } ∷ []) first last
+    (subst (λ (o : Option (List ReadRange)). ReadsFront (asked_size blob ∷ []) first o) (sym same)
+    (front_all (asked_size blob ∷ []) first next asked))
 
 -- and then it was read
 pub blob_read : (blob size len : ℕ) (first next last : Option (List ReadRange)) → ReadsAll (asked_size blob ∷ []) first next
-    → ReadsAll (record { blob = blob; at = 0; len = len } ∷ []) next last → len ≡ size → ReadsSome (whole_blob blob size) first last
+    → ReadsAll (record { blob = blob; at = 0; len = len } ∷ []) next last → len ≡ size → ReadsAll (whole_blob blob size) first last
 blob_read blob size len first next last asked read long =
-    some_all (whole_blob blob size) first last
-    (subst (λ (n : ℕ). ReadsAll (whole_blob blob n) first last) long
-    (all_joined (asked_size blob ∷ []) (record { blob = blob; at = 0; len = len } ∷ []) first next last asked read))
+    subst (λ (n : ℕ). ReadsAll (whole_blob blob n) first last) long
+    (all_joined (asked_size blob ∷ []) (record { blob = blob; at = 0; len = len } ∷ []) first next last asked read)
 
 -- ---- a turn of a loop over files
 
@@ -101,14 +87,13 @@ module _ (files : List FileRec) (i : ℕ) (within : i < length files) where
       subst (λ (rs : List ReadRange). ReadsAll rs first last) (sym one_more)
       (all_joined (texts_ranges (take i files)) (text_ranges its) first next last before here)
 
-  pub turn_some : (first next last : Option (List ReadRange)) → ReadsAll (texts_ranges (take i files)) first next
-      → ReadsSome (text_ranges its) next last → ReadsSome (texts_ranges files) first last
-  turn_some first next last before here =
-      subst (λ (rs : List ReadRange). ReadsSome rs first last) (sym all_of_them)
-      (some_front (texts_ranges (take (i + 1) files)) (texts_ranges (drop (i + 1) files)) first last
-      (subst (λ (rs : List ReadRange). ReadsSome rs first last) (sym one_more)
-      (some_joined (texts_ranges (take i files)) (text_ranges its) first next last
-      (some_all (texts_ranges (take i files)) first next before) here)))
+  pub turn_front : (first next last : Option (List ReadRange)) → ReadsAll (texts_ranges (take i files)) first next
+      → ReadsFront (text_ranges its) next last → ReadsFront (texts_ranges files) first last
+  turn_front first next last before here =
+      subst (λ (rs : List ReadRange). ReadsFront rs first last) (sym all_of_them)
+      (front_more (texts_ranges (take (i + 1) files)) (texts_ranges (drop (i + 1) files)) first last
+      (subst (λ (rs : List ReadRange). ReadsFront rs first last) (sym one_more)
+      (front_joined (texts_ranges (take i files)) (text_ranges its) first next last before here)))
 
 pub ended_all : (files : List FileRec) (i : ℕ) (before after : Option (List ReadRange)) → length files ≤ i
     → ReadsAll (texts_ranges (take i files)) before after → ReadsAll (texts_ranges files) before after

@@ -5,7 +5,6 @@ use Rattle.std.specs.Prelude.{Option, None, option_map}
 use Rattle.std.specs.List.{flat_map}
 use Rattle.wu_base.specs.declared.addresses.PartRec.{PartRec}
 use Rattle.wu_base.specs.declared.limits.TheConstants.{ADDRESSES_MAX}
-use Rattle.wu_layout.specs.Changes.{IsSublist}
 use Rattle.wu_outside.specs.Content.{Content}
 use Rattle.wu_outside.specs.Ranges.{asked_size, root_range}
 use Rattle.wu_outside.specs.declared.ranges.ReadRange.{ReadRange}
@@ -24,16 +23,16 @@ use Rattle.wu_check.specs.declared.checking.Checked.TheVariants.{Sound, Broken}
 abbrev pub ReadsAll : List ReadRange → Option (List ReadRange) → Option (List ReadRange) → Type 0
 ReadsAll ranges before after = after ≡ option_map (λ earlier. earlier ++ ranges) before
 
--- some of these ranges were read, in this order and each at most once, and nothing else
-abbrev pub ReadsSome : List ReadRange → Option (List ReadRange) → Option (List ReadRange) → Type 0
-ReadsSome ranges before after = (read : List ReadRange) × IsSublist read ranges × ReadsAll read before after
+-- the first ones of these ranges were read, in this order, and nothing else
+abbrev pub ReadsFront : List ReadRange → Option (List ReadRange) → Option (List ReadRange) → Type 0
+ReadsFront ranges before after = (read left : List ReadRange) × (read ++ left ≡ ranges) × ReadsAll read before after
 
 -- the same of a list of that kind
 abbrev pub ReadsAllOf : (List ReadRange → Type 0) → Option (List ReadRange) → Option (List ReadRange) → Type 0
 ReadsAllOf Are before after = (ranges : List ReadRange) × Are ranges × ReadsAll ranges before after
 
-abbrev pub ReadsSomeOf : (List ReadRange → Type 0) → Option (List ReadRange) → Option (List ReadRange) → Type 0
-ReadsSomeOf Are before after = (ranges : List ReadRange) × Are ranges × ReadsSome ranges before after
+abbrev pub ReadsFrontOf : (List ReadRange → Type 0) → Option (List ReadRange) → Option (List ReadRange) → Type 0
+ReadsFrontOf Are before after = (ranges : List ReadRange) × Are ranges × ReadsFront ranges before after
 
 -- where nothing was found wrong
 abbrev pub IfSound : Checked → Type 0 → Type 0
@@ -46,6 +45,10 @@ IfSound (Broken blob) P = Unit {0}
 abbrev pub whole_blob : ℕ → ℕ → List ReadRange
 whole_blob blob size = asked_size blob ∷ record { blob = blob; at = 0; len = size } ∷ []
 
+-- the same, or its size alone is asked
+abbrev pub TriesBlob : ℕ → ℕ → List ReadRange → Type 0
+TriesBlob blob size ranges = (ranges ≡ whole_blob blob size) ⊎ (ranges ≡ asked_size blob ∷ [])
+
 -- a text; the empty one is in no blob, and isn't read
 abbrev pub text_ranges : FileRec → List ReadRange
 text_ranges file = if file.blob == 0 then [] else whole_blob file.blob file.len
@@ -57,6 +60,14 @@ texts_ranges files = flat_map text_ranges files
 abbrev pub part_ranges : PartRec → List ReadRange
 part_ranges part = if nat_lt part.high ADDRESSES_MAX then whole_blob part.blob part.size else []
 
+-- the same, or its size alone is asked, as where it has another one than was recorded
+abbrev pub TriesPart : PartRec → List ReadRange → Type 0
+TriesPart part ranges = (ranges ≡ part_ranges part) ⊎ (ranges ≡ asked_size part.blob ∷ [])
+
+-- and then those texts
+abbrev pub TriesOwn : PartRec → List FileRec → List ReadRange → Type 0
+TriesOwn part files ranges = (own : List ReadRange) × TriesPart part own × (ranges ≡ own ++ texts_ranges files)
+
 -- ---- what there is to read
 
 -- each part, and behind it those of the texts that start at or before its last address; behind the last part the texts that are left
@@ -67,18 +78,32 @@ index_ranges files (part ∷ parts) =
     ++ (texts_ranges (filter (λ file. nat_le file.range.start part.high) files)
     ++ index_ranges (filter (λ file. nat_lt part.high file.range.start) files) parts)
 
+-- the same where parts may be wrong
+abbrev pub TriesIndex : List FileRec → List PartRec → List ReadRange → Type 0
+TriesIndex files [] ranges = ranges ≡ texts_ranges files
+TriesIndex files (part ∷ parts) ranges =
+    (own later : List ReadRange) × TriesPart part own × TriesIndex (filter (λ file. nat_lt part.high file.range.start) files) parts later
+    × (ranges ≡ own ++ (texts_ranges (filter (λ file. nat_le file.range.start part.high) files) ++ later))
+
 -- the ranges are those of the parts that count and of the texts by their addresses
 pub record AreOfIndex (version : ℕ) (checkpoint : Checkpoint) (ranges : List ReadRange) : Type 0 where
   pub order : List FileRec
   pub by_address : IsByAddress checkpoint.files order
   pub are : ranges ≡ index_ranges order (parts_of version checkpoint)
 
--- they are those of the checkpoint that the root names, and of what this records
-pub record AreUnderRoot (content : Content) (root : Root) (ranges : List ReadRange) : Type 0 where
+-- the same where parts may be wrong
+pub record AreTried (version : ℕ) (checkpoint : Checkpoint) (ranges : List ReadRange) : Type 0 where
+  pub order : List FileRec
+  pub by_address : IsByAddress checkpoint.files order
+  pub are : TriesIndex order (parts_of version checkpoint) ranges
+
+-- they are those of the checkpoint that the root names, and then such ones of what this records
+pub record AreUnderRoot (content : Content) (Are : ℕ → Checkpoint → List ReadRange → Type 0) (root : Root) (ranges : List ReadRange)
+    : Type 0 where
   pub checkpoint : Checkpoint
   pub saved : HasCheckpoint content root checkpoint
   pub later : List ReadRange
-  pub index : AreOfIndex root.version checkpoint later
+  pub index : Are root.version checkpoint later
   pub are : ranges ≡ whole_blob root.checkpoint root.size ++ later
 
 -- they are the root's, in a buffer of its length, and such ones under it
@@ -92,15 +117,16 @@ pub record AreFromRoot (content : Content) (Are : Root → List ReadRange → Ty
 -- all that there is to read in a store in which nothing is wrong: where there is no root, only this was looked for
 abbrev pub AreRead : Content → List ReadRange → Type 0
 AreRead content ranges =
-    (content.root ≡ None) × (ranges ≡ root_range ROOT_LEN ∷ []) ⊎ AreFromRoot content (AreUnderRoot content) ranges
+    (content.root ≡ None) × (ranges ≡ root_range ROOT_LEN ∷ []) ⊎ AreFromRoot content (AreUnderRoot content AreOfIndex) ranges
 
 -- The most that there is to read where something may be wrong: under a root that is none there is nothing, under a checkpoint that is none
 -- neither, and of what a checkpoint records maybe nothing.
 abbrev pub MayBeOfIndex : ℕ → Checkpoint → List ReadRange → Type 0
-MayBeOfIndex version checkpoint ranges = (ranges ≡ []) ⊎ AreOfIndex version checkpoint ranges
+MayBeOfIndex version checkpoint ranges = (ranges ≡ []) ⊎ AreTried version checkpoint ranges
 
 abbrev pub MayBeUnderRoot : Content → Root → List ReadRange → Type 0
-MayBeUnderRoot content root ranges = (ranges ≡ whole_blob root.checkpoint root.size) ⊎ AreUnderRoot content root ranges
+MayBeUnderRoot content root ranges =
+    (ranges ≡ whole_blob root.checkpoint root.size) ⊎ AreUnderRoot content MayBeOfIndex root ranges
 
 abbrev pub MayBeRead : Content → List ReadRange → Type 0
 MayBeRead content ranges = (ranges ≡ root_range ROOT_LEN ∷ []) ⊎ AreFromRoot content (MayBeUnderRoot content) ranges

@@ -65,6 +65,12 @@ abbrev pub verdict_without : Option ℕ → Verdict
 verdict_without None = WrongPart
 verdict_without (Some blob) = BrokenText blob
 
+-- where no text is found broken
+abbrev pub UnlessText : Verdict → Type 0 → Type 0
+UnlessText Sound P = P
+UnlessText WrongPart P = P
+UnlessText (BrokenText blob) P = Unit {0}
+
 -- ---- a part
 
 -- what is found of the part and of the texts of files that lie within its span

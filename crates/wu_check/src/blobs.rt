@@ -1,9 +1,9 @@
 //! Blobs that are read whole.
-ghost use Rattle.std.specs.Prelude.{◌≡◌, Some, IfNone, IfOk, IfSome, length};
+ghost use Rattle.std.specs.Prelude.{◌≡◌, Some, IfNone, IfOk, IfSome, OnOk, length};
 ghost use Rattle.wu_outside.specs.Content.{HasSize};
 ghost use Rattle.wu_outside.specs.Reading.{OnlyReads};
 ghost use Rattle.wu_outside.specs.Faults.{HasFaultCause};
-ghost use Rattle.wu_check.specs.Reads.{ReadsAll, ReadsSome, whole_blob};
+ghost use Rattle.wu_check.specs.Reads.{ReadsAll, ReadsAllOf, ReadsFront, TriesBlob, whole_blob};
 
 use std::alloc::Global;
 use wu_outside::{Fault, Store};
@@ -22,9 +22,11 @@ pub fn read_whole<D: Store>(
     ensures none { IfOk result (λ found. IfNone found (IfSome (D.holds store.old)
         (λ content. HasSize size (content.blobs blob) → ⊥))) }
     ensures reads { OnlyReads D.Store store.old store.new result }
-    ensures ranges { ReadsSome (whole_blob blob size) (D.reads store.old) (D.reads store.new) }
+    ensures ranges { ReadsFront (whole_blob blob size) (D.reads store.old) (D.reads store.new) }
     ensures whole { IfOk result (λ found. IfSome found (λ _.
         ReadsAll (whole_blob blob size) (D.reads store.old) (D.reads store.new))) }
+    ensures tried { OnOk result
+        (ReadsAllOf (TriesBlob blob size) (D.reads store.old) (D.reads store.new)) }
     ensures cause { HasFaultCause (D.faults store.old) (D.faults store.new) result }
 {
     match store.size(blob)? {

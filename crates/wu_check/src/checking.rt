@@ -6,7 +6,7 @@ ghost use Rattle.wu_image.specs.Checkpoints.{IsCheckpoint};
 ghost use Rattle.wu_check.specs.Checking.{IsIndexChecked};
 ghost use Rattle.wu_check.specs.Reads.{AreOfIndex, AreRead, AreUnderRoot, IfSound};
 ghost use Rattle.wu_check.specs.Reads.{MayBeOfIndex, MayBeRead, MayBeUnderRoot};
-ghost use Rattle.wu_check.specs.Reads.{ReadsAllOf, ReadsSomeOf};
+ghost use Rattle.wu_check.specs.Reads.{ReadsAllOf, ReadsFrontOf};
 ghost use Rattle.wu_check.specs.Wrong.{IsChecked, IsRootOf};
 
 use crate::counting::{counted_parts, counts};
@@ -44,7 +44,7 @@ pub fn check<D: Store>(alloc: Global, store: &mut D) -> Result<Checked, Fault>
     ensures checked { IfOk result (λ checked. IfSome (D.holds store.old)
         (λ content. IsChecked content checked)) }
     ensures reads { OnlyReads D.Store store.old store.new result }
-    ensures ranges { IfSome (D.holds store.old) (λ content. ReadsSomeOf (MayBeRead content)
+    ensures ranges { IfSome (D.holds store.old) (λ content. ReadsFrontOf (MayBeRead content)
         (D.reads store.old) (D.reads store.new)) }
     ensures whole { IfOk result (λ checked. IfSound checked (IfSome (D.holds store.old)
         (λ content. ReadsAllOf (AreRead content) (D.reads store.old) (D.reads store.new)))) }
@@ -72,9 +72,9 @@ fn check_saved<D: Store>(alloc: Global, store: &mut D, root: &Root) -> Result<Ch
         (λ content. IsChecked content checked)) }
     ensures reads { OnlyReads D.Store store.old store.new result }
     ensures ranges { IfSome (D.holds store.old) (λ content.
-        ReadsSomeOf (MayBeUnderRoot content root.now) (D.reads store.old) (D.reads store.new)) }
+        ReadsFrontOf (MayBeUnderRoot content root.now) (D.reads store.old) (D.reads store.new)) }
     ensures whole { IfOk result (λ checked. IfSound checked (IfSome (D.holds store.old)
-        (λ content. ReadsAllOf (AreUnderRoot content root.now)
+        (λ content. ReadsAllOf (AreUnderRoot content AreOfIndex root.now)
         (D.reads store.old) (D.reads store.new)))) }
     ensures cause { HasFaultCause (D.faults store.old) (D.faults store.new) result }
 {
@@ -98,7 +98,7 @@ fn check_index<D: Store>(
     ensures checked { IfOk result (λ checked. IfSome (D.holds store.old)
         (λ content. IsIndexChecked content version checkpoint.now checked)) }
     ensures reads { OnlyReads D.Store store.old store.new result }
-    ensures ranges { ReadsSomeOf (MayBeOfIndex version checkpoint.now)
+    ensures ranges { ReadsFrontOf (MayBeOfIndex version checkpoint.now)
         (D.reads store.old) (D.reads store.new) }
     ensures whole { IfOk result (λ checked. IfSound checked
         (ReadsAllOf (AreOfIndex version checkpoint.now) (D.reads store.old) (D.reads store.new))) }

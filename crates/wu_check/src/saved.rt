@@ -7,7 +7,7 @@ ghost use Rattle.wu_image.specs.declared.checkpoints.Checkpoint.{Checkpoint};
 ghost use Rattle.wu_image.specs.declared.roots.Root.{Root};
 ghost use Rattle.wu_image.specs.Checkpoints.{IsCheckpoint, SpellsCheckpoint};
 ghost use Rattle.wu_image.specs.Roots.{SpellsRoot};
-ghost use Rattle.wu_check.specs.Reads.{ReadsAll, ReadsSome, whole_blob};
+ghost use Rattle.wu_check.specs.Reads.{ReadsAll, ReadsFront, whole_blob};
 ghost use Rattle.wu_check.specs.Saved.{IsOwn};
 ghost use Rattle.wu_check.specs.Wrong.{HasCheckpoint, IsSoundCheckpoint};
 
@@ -44,7 +44,7 @@ pub(crate) fn checkpoint_of<D: Store>(
     ensures none { IfOk result (λ found. IfNone found (IfSome (D.holds store.old)
         (λ content. (checkpoint : Checkpoint) → HasCheckpoint content root.now checkpoint → ⊥))) }
     ensures reads { OnlyReads D.Store store.old store.new result }
-    ensures ranges { ReadsSome (whole_blob root.now.checkpoint root.now.size)
+    ensures ranges { ReadsFront (whole_blob root.now.checkpoint root.now.size)
         (D.reads store.old) (D.reads store.new) }
     ensures whole { IfOk result (λ found. IfSome found (λ _.
         ReadsAll (whole_blob root.now.checkpoint root.now.size)

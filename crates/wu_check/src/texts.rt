@@ -10,7 +10,7 @@ ghost use Rattle.wu_outside.specs.Reading.{OnlyReads};
 ghost use Rattle.wu_token.specs.Tokens.{tokens_of};
 ghost use Rattle.wu_image.specs.Images.{IsByAddress};
 ghost use Rattle.wu_check.specs.Places.{IsAtPlace};
-ghost use Rattle.wu_check.specs.Reads.{ReadsAll, ReadsSome, text_ranges, texts_ranges};
+ghost use Rattle.wu_check.specs.Reads.{ReadsAll, ReadsFront, text_ranges, texts_ranges};
 ghost use Rattle.wu_check.specs.Terms.{HaveTermsFrom};
 ghost use Rattle.wu_check.specs.Walking.{FindsText, IsCompared, IsIndexFor, IsReadable, IsTextIn};
 ghost use Rattle.wu_check.specs.Wrong.{IsWrongText};
@@ -44,7 +44,7 @@ fn text_of<D: Store>(alloc: Global, store: &mut D, file: &FileRec) -> Result<Opt
     ensures none { IfOk result (λ found. IfNone found (IfSome (D.holds store.old)
         (λ content. IsWrongText content file.now))) }
     ensures reads { OnlyReads D.Store store.old store.new result }
-    ensures ranges { ReadsSome (text_ranges file.now) (D.reads store.old) (D.reads store.new) }
+    ensures ranges { ReadsFront (text_ranges file.now) (D.reads store.old) (D.reads store.new) }
     ensures whole { IfOk result (λ found. IfSome found (λ _.
         ReadsAll (text_ranges file.now) (D.reads store.old) (D.reads store.new))) }
     ensures cause { HasFaultCause (D.faults store.old) (D.faults store.new) result }
@@ -70,7 +70,7 @@ fn is_whole<D: Store>(alloc: Global, store: &mut D, file: &FileRec) -> Result<bo
         (λ content. MatchBool whole (IsWrongText content file.now → ⊥)
         (IsWrongText content file.now))) }
     ensures reads { OnlyReads D.Store store.old store.new result }
-    ensures ranges { ReadsSome (text_ranges file.now) (D.reads store.old) (D.reads store.new) }
+    ensures ranges { ReadsFront (text_ranges file.now) (D.reads store.old) (D.reads store.new) }
     ensures read { result ≡ Ok true
         → ReadsAll (text_ranges file.now) (D.reads store.old) (D.reads store.new) }
     ensures cause { HasFaultCause (D.faults store.old) (D.faults store.new) result }
@@ -91,7 +91,7 @@ pub(crate) fn first_broken<D: Store>(
     ensures found { IfOk result (λ found. IfSome (D.holds store.old)
         (λ content. FindsText content files.now found)) }
     ensures reads { OnlyReads D.Store store.old store.new result }
-    ensures ranges { ReadsSome (texts_ranges files.now) (D.reads store.old) (D.reads store.new) }
+    ensures ranges { ReadsFront (texts_ranges files.now) (D.reads store.old) (D.reads store.new) }
     ensures whole { IfOk result (λ found. IfNone found
         (ReadsAll (texts_ranges files.now) (D.reads store.old) (D.reads store.new))) }
     ensures cause { HasFaultCause (D.faults store.old) (D.faults store.new) result }
@@ -118,7 +118,7 @@ pub(crate) fn compare_file<D: Store>(
         → IsIndexFor ranges lists index.now → IsAtPlace ranges place file.now.range
         → IfSome (D.holds store.old) (λ content. IsCompared content lists file.now found)) }
     ensures reads { OnlyReads D.Store store.old store.new result }
-    ensures ranges { ReadsSome (text_ranges file.now) (D.reads store.old) (D.reads store.new) }
+    ensures ranges { ReadsFront (text_ranges file.now) (D.reads store.old) (D.reads store.new) }
     ensures whole { IfOk result (λ found. IfSome found (λ _.
         ReadsAll (text_ranges file.now) (D.reads store.old) (D.reads store.new))) }
     ensures cause { HasFaultCause (D.faults store.old) (D.faults store.new) result }

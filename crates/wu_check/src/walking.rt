@@ -1,6 +1,6 @@
 //! The walk over the parts of the index and the texts, side by side by address.
 ghost use Rattle.std.specs.Prelude.{◌≡◌, ℕ, ◌+◌, ◌-◌, ◌<◌, ◌≤◌, ◌++◌, true, List, Ok, MatchBool};
-ghost use Rattle.std.specs.Prelude.{IfNone, IfOk, IfSome, Some, length, drop, take, sum_by};
+ghost use Rattle.std.specs.Prelude.{IfNone, IfOk, IfSome, OnOk, Some, length, drop, take, sum_by};
 ghost use Rattle.std.specs.List.{AllByRecursion, list_any};
 ghost use Rattle.std.specs.List.Sorted.{IsNonDecreasingBy};
 ghost use Rattle.wu_base.specs.declared.addresses.TermList.{TermList};
@@ -11,9 +11,10 @@ ghost use Rattle.wu_part.specs.Parts.{IsBroken};
 ghost use Rattle.wu_image.specs.LayoutRules.{SpansAscend, lies_in};
 ghost use Rattle.wu_check.specs.Indexing.{IsIndexOf};
 ghost use Rattle.wu_check.specs.Places.{total_of};
-ghost use Rattle.wu_check.specs.Reads.{ReadsAll, ReadsSome, index_ranges, part_ranges};
-ghost use Rattle.wu_check.specs.Reads.{texts_ranges};
-ghost use Rattle.wu_check.specs.Walking.{AreCompared, FindsText, FindsWrong, HasIndex, IsIndexFor, IsReadable, IsVerdict, leftmost_of, ranges_of, verdict_if, verdict_without};
+ghost use Rattle.wu_check.specs.Reads.{ReadsAll, ReadsAllOf, ReadsFront, ReadsFrontOf};
+ghost use Rattle.wu_check.specs.Reads.{TriesIndex, TriesOwn, TriesPart};
+ghost use Rattle.wu_check.specs.Reads.{index_ranges, part_ranges, texts_ranges};
+ghost use Rattle.wu_check.specs.Walking.{AreCompared, FindsText, FindsWrong, HasIndex, IsIndexFor, IsReadable, IsVerdict, UnlessText, leftmost_of, ranges_of, verdict_if, verdict_without};
 
 use crate::blobs::read_whole;
 use crate::indexing::{PartIndex, index_part};
@@ -54,7 +55,7 @@ pub(crate) fn first_wrong<D: Store>(
     ensures found { IfOk result (λ found. IfSome (D.holds store.old)
         (λ content. FindsWrong content files.now parts.now found)) }
     ensures reads { OnlyReads D.Store store.old store.new result }
-    ensures ranges { ReadsSome (index_ranges files.now parts.now)
+    ensures ranges { ReadsFrontOf (TriesIndex files.now parts.now)
         (D.reads store.old) (D.reads store.new) }
     ensures whole { IfOk result (λ found. IfNone found
         (ReadsAll (index_ranges files.now parts.now) (D.reads store.old) (D.reads store.new))) }
@@ -112,8 +113,10 @@ fn check_part<D: Store>(
     ensures verdict { IfOk result (λ verdict. IfSome (D.holds store.old)
         (λ content. IsVerdict content part.now files.now verdict)) }
     ensures reads { OnlyReads D.Store store.old store.new result }
-    ensures ranges { ReadsSome (part_ranges part.now ++ texts_ranges files.now)
+    ensures ranges { ReadsFrontOf (TriesOwn part.now files.now)
         (D.reads store.old) (D.reads store.new) }
+    ensures tried { IfOk result (λ verdict. UnlessText verdict
+        (ReadsAllOf (TriesOwn part.now files.now) (D.reads store.old) (D.reads store.new))) }
     ensures whole { result ≡ Ok Verdict.Sound
         → ReadsAll (part_ranges part.now ++ texts_ranges files.now)
         (D.reads store.old) (D.reads store.new) }
@@ -152,9 +155,11 @@ fn index_of<D: Store>(
     ensures none { IfOk result (λ found. IfNone found (IfSome (D.holds store.old)
         (λ content. IsBroken part.now (content.blobs part.now.blob)))) }
     ensures reads { OnlyReads D.Store store.old store.new result }
-    ensures ranges { ReadsSome (part_ranges part.now) (D.reads store.old) (D.reads store.new) }
+    ensures ranges { ReadsFront (part_ranges part.now) (D.reads store.old) (D.reads store.new) }
     ensures whole { IfOk result (λ found. IfSome found (λ _.
         ReadsAll (part_ranges part.now) (D.reads store.old) (D.reads store.new))) }
+    ensures tried { OnOk result
+        (ReadsAllOf (TriesPart part.now) (D.reads store.old) (D.reads store.new)) }
     ensures cause { HasFaultCause (D.faults store.old) (D.faults store.new) result }
 {
     // No part has an address from the limit on, so one that is recorded so is broken.
@@ -193,9 +198,9 @@ fn compare_texts<D: Store>(
         → IsIndexFor (ranges_of files.now) lists index.now
         → IfSome (D.holds store.old) (λ content. AreCompared content lists files.now verdict)) }
     ensures reads { OnlyReads D.Store store.old store.new result }
-    ensures ranges { ReadsSome (texts_ranges files.now) (D.reads store.old) (D.reads store.new) }
-    ensures whole { result ≡ Ok Verdict.Sound
-        → ReadsAll (texts_ranges files.now) (D.reads store.old) (D.reads store.new) }
+    ensures ranges { ReadsFront (texts_ranges files.now) (D.reads store.old) (D.reads store.new) }
+    ensures whole { IfOk result (λ verdict. UnlessText verdict
+        (ReadsAll (texts_ranges files.now) (D.reads store.old) (D.reads store.new))) }
     ensures cause { HasFaultCause (D.faults store.old) (D.faults store.new) result }
 {
     let mut same = true;

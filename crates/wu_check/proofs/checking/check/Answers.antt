@@ -1,7 +1,7 @@
 use Rattle.std.proofs.Common.{◌≡◌, length, rules}
 use Rattle.std.proofs.lemmas.Result.{IfOk-weaker}
 use Rattle.wu_image.specs.declared.roots.TheConstants.{ROOT_LEN}
-use Rattle.wu_check.specs.Reads.{MayBeUnderRoot, ReadsSomeOf}
+use Rattle.wu_check.specs.Reads.{MayBeUnderRoot, ReadsFrontOf}
 use Rattle.wu_check.proofs.CheckedRanges.{from_all, from_some, none_there, root_alone, root_found, root_read, root_unread}
 use Rattle.wu_check.proofs.ToldContents.{told_before}
 use Rattle.wu_check.proofs.checking.check.Goals as goal
@@ -39,7 +39,7 @@ returns-in-Some-root_given-clause-ranges g c =
     (rw c.in-Some-root_given.is at c.root_given.ensures.whole) (rw c.in-Some-root_given.is at c.root_given.ensures.found)
     c.in_ok-root.ensures.bytes)
     before after last (root_read (length c.root.new.buf) before after long c.in_ok-root.ensures.noted)
-    (told_before (λ content. ReadsSomeOf (MayBeUnderRoot content root) after last) (g.D.Store.holds c.args.store.now)
+    (told_before (λ content. ReadsFrontOf (MayBeUnderRoot content root) after last) (g.D.Store.holds c.args.store.now)
     (g.D.Store.holds c.root.new.self) c.root.ensures.same c.check_saved.ensures.ranges)
 
 pub returns-in-Some-root_given-clause-whole : goal.returns-in-Some-root_given-clause-whole

@@ -1,14 +1,14 @@
 use Rattle.std.proofs.Common.{◌≡◌, ◌<◌, ◌∙◌, false, true, length, arith, rules}
 use Rattle.wu_check.specs.Reads.{texts_ranges}
 use Rattle.wu_check.proofs.ComparedFiles.{turn_sound, turn_wrong}
-use Rattle.wu_check.proofs.ReadRanges.{ended_all, some_all, turn_all, turn_some}
+use Rattle.wu_check.proofs.ReadRanges.{ended_all, front_all, turn_all, turn_front}
 use Rattle.wu_check.proofs.texts.first_broken.Goals as goal
 
 pub returns-in_err-is_whole-clause-ranges : goal.returns-in_err-is_whole-clause-ranges
 returns-in_err-is_whole-clause-ranges g c =
     let within : c.loop-file.file-index < length c.args.files.now = omega arith in
     let reads = g.D.Store.reads in
-    turn_some c.args.files.now c.loop-file.file-index within (reads c.args.store.now) (reads c.loop-file.store)
+    turn_front c.args.files.now c.loop-file.file-index within (reads c.args.store.now) (reads c.loop-file.store)
     (reads c.is_whole.new.store) c.loop-file.invariant.ranges c.is_whole.ensures.ranges
 
 pub returns-then-not-branch-clause-found : goal.returns-then-not-branch-clause-found
@@ -23,7 +23,7 @@ pub returns-then-not-branch-clause-ranges : goal.returns-then-not-branch-clause-
 returns-then-not-branch-clause-ranges g c =
     let within : c.loop-file.file-index < length c.args.files.now = omega arith in
     let reads = g.D.Store.reads in
-    turn_some c.args.files.now c.loop-file.file-index within (reads c.args.store.now) (reads c.loop-file.store)
+    turn_front c.args.files.now c.loop-file.file-index within (reads c.args.store.now) (reads c.loop-file.store)
     (reads c.is_whole.new.store) c.loop-file.invariant.ranges c.is_whole.ensures.ranges
 
 pub loop-file-preserved : goal.loop-file-preserved
@@ -50,6 +50,6 @@ loop-file-preserved g c =
 pub returns-clause-ranges : goal.returns-clause-ranges
 returns-clause-ranges g c =
     let reads = g.D.Store.reads in
-    some_all (texts_ranges c.args.files.now) (reads c.args.store.now) (reads c.loop-file.store)
+    front_all (texts_ranges c.args.files.now) (reads c.args.store.now) (reads c.loop-file.store)
     (ended_all c.args.files.now c.loop-file.file-index (reads c.args.store.now) (reads c.loop-file.store) (omega arith)
     c.loop-file.invariant.ranges)

@@ -2,7 +2,8 @@ use Rattle.std.proofs.Common.{◌≡◌, ◌<◌, ◌&&◌, ◌∙◌, length, a
 use Rattle.wu_check.specs.Reads.{texts_ranges}
 use Rattle.wu_check.specs.Walking.{ranges_of}
 use Rattle.wu_check.proofs.ComparedFiles.{at_place, both_true, next_place, one_false, place_within, turn_broken, turn_compared}
-use Rattle.wu_check.proofs.ReadRanges.{ended_all, some_all, turn_all, turn_some}
+use Rattle.wu_check.proofs.ReadRanges.{ended_all, front_all, turn_all, turn_front}
+use Rattle.wu_check.proofs.ReadWalks.{unless_given}
 use Rattle.wu_check.proofs.walking.compare_texts.Goals as goal
 use Rattle.wu_check.proofs.walking.compare_texts.Goals.{then-same, else-same}
 
@@ -21,20 +22,20 @@ pub returns-in_err-found-clause-ranges : goal.returns-in_err-found-clause-ranges
 returns-in_err-found-clause-ranges g c =
     let within : c.loop-file.file-index < length c.args.files.now = omega arith in
     let reads = g.D.Store.reads in
-    turn_some c.args.files.now c.loop-file.file-index within (reads c.args.store.now) (reads c.loop-file.store)
+    turn_front c.args.files.now c.loop-file.file-index within (reads c.args.store.now) (reads c.loop-file.store)
     (reads c.compare_file.new.store) c.loop-file.invariant.ranges c.compare_file.ensures.ranges
 
 pub returns-in-None-clause-ranges : goal.returns-in-None-clause-ranges
 returns-in-None-clause-ranges g c =
     let within : c.loop-file.file-index < length c.args.files.now = omega arith in
     let reads = g.D.Store.reads in
-    turn_some c.args.files.now c.loop-file.file-index within (reads c.args.store.now) (reads c.loop-file.store)
+    turn_front c.args.files.now c.loop-file.file-index within (reads c.args.store.now) (reads c.loop-file.store)
     (reads c.compare_file.new.store) c.loop-file.invariant.ranges c.compare_file.ensures.ranges
 
 pub returns-clause-ranges : goal.returns-clause-ranges
 returns-clause-ranges g c =
     let reads = g.D.Store.reads in
-    some_all (texts_ranges c.args.files.now) (reads c.args.store.now) (reads c.loop-file.store)
+    front_all (texts_ranges c.args.files.now) (reads c.args.store.now) (reads c.loop-file.store)
     (ended_all c.args.files.now c.loop-file.file-index (reads c.args.store.now) (reads c.loop-file.store) (omega arith)
     c.loop-file.invariant.ranges)
 
@@ -70,3 +71,10 @@ loop-file-preserved g c =
           turn_all files i within (g.D.Store.reads c.args.store.now) (g.D.Store.reads c.loop-file.store)
           (g.D.Store.reads c.compare_file.new.store) before.ranges (rw c.in-Some.is at c.in_ok-found.ensures.whole);
     }
+
+pub returns-clause-whole : goal.returns-clause-whole
+returns-clause-whole g c =
+    let reads = g.D.Store.reads in
+    unless_given c.verdict_of.result
+    (ended_all c.args.files.now c.loop-file.file-index (reads c.args.store.now) (reads c.loop-file.store) (omega arith)
+    c.loop-file.invariant.ranges)

@@ -4,7 +4,7 @@ use Rattle.std.specs.List.{AllByRecursion}
 use Rattle.std.proofs.lemmas.List.{take_rest}
 use Rattle.wu_layout.proofs.EntryLemmas.{IfSome-all}
 use Rattle.wu_image.specs.declared.records.FileRec.{FileRec}
-use Rattle.wu_check.specs.Reads.{ReadsAll, ReadsSome, texts_ranges}
+use Rattle.wu_check.specs.Reads.{ReadsAll, ReadsFront, texts_ranges}
 use Rattle.wu_check.specs.Walking.{FindsPart, FindsText}
 use Rattle.wu_check.specs.Wrong.{AreSoundTexts}
 use Rattle.wu_check.proofs.ReadWalks.{IsReadTo, if_none, read_none, walk_all, walk_more, walk_some, walk_stopped}
@@ -104,7 +104,7 @@ loop-part-preserved g c =
           (sym c.leftmost-wrong.ensures)
           (walk_more files parts i done n within c.loop-part.wrong (reads c.args.store.now) (reads c.loop-part.store)
           (reads c.check_part.new.store) before.read started later (done + n - done) (omega arith) c.in_ok-verdict.verdict
-          (get_or parts i no_part).blob c.in_default.not-BrokenText c.check_part.ensures.ranges
+          (get_or parts i no_part).blob c.in_default.not-BrokenText c.in_ok-verdict.ensures.tried
           (λ sound. c.in_ok-verdict.ensures.whole cc));
     }
 
@@ -172,7 +172,7 @@ returns-in_err-blob-clause-ranges g c =
     let reads = g.D.Store.reads in
     let files : List FileRec = c.args.files.now in
     let here = subst
-    (λ (l : List FileRec). ReadsSome (texts_ranges l) (reads c.loop-part.store) (reads c.first_broken.new.store))
+    (λ (l : List FileRec). ReadsFront (texts_ranges l) (reads c.loop-part.store) (reads c.first_broken.new.store))
     (take_rest files c.loop-part.done) c.first_broken.ensures.ranges in
     walk_some files c.args.parts.now c.loop-part.part-index c.loop-part.done (omega arith) c.loop-part.wrong (reads c.args.store.now)
     (reads c.loop-part.store) (reads c.first_broken.new.store) c.loop-part.invariant.read here
@@ -182,7 +182,7 @@ returns-in-Some-clause-ranges g c =
     let reads = g.D.Store.reads in
     let files : List FileRec = c.args.files.now in
     let here = subst
-    (λ (l : List FileRec). ReadsSome (texts_ranges l) (reads c.loop-part.store) (reads c.first_broken.new.store))
+    (λ (l : List FileRec). ReadsFront (texts_ranges l) (reads c.loop-part.store) (reads c.first_broken.new.store))
     (take_rest files c.loop-part.done) c.first_broken.ensures.ranges in
     walk_some files c.args.parts.now c.loop-part.part-index c.loop-part.done (omega arith) c.loop-part.wrong (reads c.args.store.now)
     (reads c.loop-part.store) (reads c.first_broken.new.store) c.loop-part.invariant.read here
@@ -192,7 +192,7 @@ returns-in-None-clause-ranges g c =
     let reads = g.D.Store.reads in
     let files : List FileRec = c.args.files.now in
     let here = subst
-    (λ (l : List FileRec). ReadsSome (texts_ranges l) (reads c.loop-part.store) (reads c.first_broken.new.store))
+    (λ (l : List FileRec). ReadsFront (texts_ranges l) (reads c.loop-part.store) (reads c.first_broken.new.store))
     (take_rest files c.loop-part.done) c.first_broken.ensures.ranges in
     walk_some files c.args.parts.now c.loop-part.part-index c.loop-part.done (omega arith) c.loop-part.wrong (reads c.args.store.now)
     (reads c.loop-part.store) (reads c.first_broken.new.store) c.loop-part.invariant.read here
