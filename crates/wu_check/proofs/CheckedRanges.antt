@@ -36,10 +36,10 @@ module _ (version : ℕ) (checkpoint : Checkpoint) (order : List FileRec) (by_ad
   index_some some = (
     some.0,
     inr (record {
-          order = order;
-          by_address = by_address;
-          are = subst (λ (l : List PartRec). TriesIndex order l some.0) counted some.1;
-        }),
+      order = order;
+      by_address = by_address;
+      are = subst (λ (l : List PartRec). TriesIndex order l some.0) counted some.1;
+    }),
     some.2,
   )
 
@@ -70,8 +70,7 @@ module _ (root : Root) (checkpoint : Checkpoint) (first next last : Option (List
       → IfSome holds (λ content. ReadsFrontOf (MayBeUnderRoot content root) first last)
   saved_some holds saved index =
       told_more holds
-      (λ content has.
-      (
+      (λ content has. (
         its_blob ++ index.0,
         inr (record { checkpoint = checkpoint; saved = has; later = index.0; index = index.1; are = refl }),
         front_joined its_blob index.0 first next last read index.2,
@@ -160,7 +159,8 @@ module _ (holds : Option Content) (root : Root) (its : IfSome holds (λ content.
       ))
       its under
 
-  pub from_all : (checked : Checked) → IfSound checked (IfSome holds (λ content. ReadsAllOf (AreUnderRoot content AreOfIndex root) next last))
+  pub from_all : (checked : Checked)
+      → IfSound checked (IfSome holds (λ content. ReadsAllOf (AreUnderRoot content AreOfIndex root) next last))
       → IfSound checked (IfSome holds (λ content. ReadsAllOf (AreRead content) first last))
   from_all (Sound files live stored parts) under =
       told_both holds

@@ -11,7 +11,8 @@ use Rattle.wu_outside.specs.declared.ranges.ReadRange.{ReadRange}
 use Rattle.wu_image.specs.declared.records.FileRec.{FileRec}
 use Rattle.wu_check.specs.declared.walking.Verdict.{Verdict}
 use Rattle.wu_check.specs.declared.walking.Verdict.TheVariants.{Sound, WrongPart, BrokenText}
-use Rattle.wu_check.specs.Reads.{ReadsAll, ReadsAllOf, ReadsFront, ReadsFrontOf, TriesIndex, TriesOwn, index_ranges, part_ranges, texts_ranges}
+use Rattle.wu_check.specs.Reads.{ReadsAll, ReadsAllOf, ReadsFront, ReadsFrontOf, TriesIndex, TriesOwn}
+use Rattle.wu_check.specs.Reads.{index_ranges, part_ranges, texts_ranges}
 use Rattle.wu_check.specs.Walking.{UnlessText, leftmost_of, verdict_without}
 use Rattle.wu_check.proofs.ReadRanges.{all_joined, all_none, front_joined, front_more}
 use Rattle.wu_check.proofs.Walks.{no_part}
@@ -158,8 +159,7 @@ module _ (files : List FileRec) (parts : List PartRec) (i done n : ℕ) (within 
       → TriesIndex (drop (done + n) files) (drop (i + 1) parts) later
       → TriesIndex (drop done files) (drop i parts) (ranges ++ later)
   its_tries ranges later tries others =
-      subst (λ (l : List PartRec). TriesIndex (drop done files) l (ranges ++ later)) (sym (drop_more parts i no_part within))
-      (
+      subst (λ (l : List PartRec). TriesIndex (drop done files) l (ranges ++ later)) (sym (drop_more parts i no_part within)) (
         tries.0,
         later,
         tries.1,
@@ -172,7 +172,8 @@ module _ (files : List FileRec) (parts : List PartRec) (i done n : ℕ) (within 
             (sym (own_files its_part.high n (drop done files) started later_files)),
       )
 
-  pub walk_stopped : ReadsFrontOf (TriesOwn its_part (take m (drop done files))) next last → ReadsFrontOf (TriesIndex files parts) first last
+  pub walk_stopped : ReadsFrontOf (TriesOwn its_part (take m (drop done files))) next last
+      → ReadsFrontOf (TriesIndex files parts) first last
   walk_stopped some = (
     so_far.read ++ (some.0 ++ left),
     so_far.tried (some.0 ++ left)
@@ -214,7 +215,8 @@ module _ (files : List FileRec) (parts : List PartRec) (i done : ℕ) (end : len
   walk_some some = (
     so_far.read ++ texts_ranges (drop done files),
     so_far.tried (texts_ranges (drop done files))
-        (subst (λ (ps : List PartRec). TriesIndex (drop done files) ps (texts_ranges (drop done files))) (sym (none_left parts i end)) refl),
+        (subst (λ (ps : List PartRec). TriesIndex (drop done files) ps (texts_ranges (drop done files)))
+        (sym (none_left parts i end)) refl),
     front_joined so_far.read (texts_ranges (drop done files)) first next last so_far.reads some,
   )
 

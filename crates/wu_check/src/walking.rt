@@ -14,7 +14,9 @@ ghost use Rattle.wu_check.specs.Places.{total_of};
 ghost use Rattle.wu_check.specs.Reads.{ReadsAll, ReadsAllOf, ReadsFront, ReadsFrontOf};
 ghost use Rattle.wu_check.specs.Reads.{TriesIndex, TriesOwn, TriesPart};
 ghost use Rattle.wu_check.specs.Reads.{index_ranges, part_ranges, texts_ranges};
-ghost use Rattle.wu_check.specs.Walking.{AreCompared, FindsText, FindsWrong, HasIndex, IsIndexFor, IsReadable, IsVerdict, UnlessText, leftmost_of, ranges_of, verdict_if, verdict_without};
+ghost use Rattle.wu_check.specs.Walking.{AreCompared, FindsText, FindsWrong, HasIndex, IsIndexFor};
+ghost use Rattle.wu_check.specs.Walking.{IsReadable, IsVerdict, UnlessText, leftmost_of, ranges_of};
+ghost use Rattle.wu_check.specs.Walking.{verdict_if, verdict_without};
 
 use crate::blobs::read_whole;
 use crate::indexing::{PartIndex, index_part};

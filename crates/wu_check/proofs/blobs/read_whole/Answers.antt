@@ -31,8 +31,7 @@ returns-in-Some-2-clause-ranges g c =
 
 pub returns-in-Some-2-clause-tried : goal.returns-in-Some-2-clause-tried
 returns-in-Some-2-clause-tried g c =
-    let reads = g.D.Store.reads in
-    (
+    let reads = g.D.Store.reads in (
       whole_blob c.args.blob c.args.size,
       inl refl,
       blob_read c.args.blob c.args.size _ (reads c.args.store.now) (reads c.size.new.self) (reads c.read.new.self)
@@ -48,8 +47,7 @@ returns-in_default-2-clause-ranges g c =
 
 pub returns-in_default-2-clause-tried : goal.returns-in_default-2-clause-tried
 returns-in_default-2-clause-tried g c =
-    let reads = g.D.Store.reads in
-    (
+    let reads = g.D.Store.reads in (
       whole_blob c.args.blob c.args.size,
       inl refl,
       blob_read c.args.blob c.args.size _ (reads c.args.store.now) (reads c.size.new.self) (reads c.read.new.self)

@@ -20,10 +20,10 @@ returns-in-Some-clause-whole g c =
 
 pub returns-in_err-checkpoint-clause-ranges : goal.returns-in_err-checkpoint-clause-ranges
 returns-in_err-checkpoint-clause-ranges g c =
-    blob_alone c.args.root.now (g.D.Store.holds c.args.store.now) (g.D.Store.reads c.args.store.now) (g.D.Store.reads c.checkpoint_of.new.store)
-    c.checkpoint_of.ensures.ranges
+    blob_alone c.args.root.now (g.D.Store.holds c.args.store.now) (g.D.Store.reads c.args.store.now)
+    (g.D.Store.reads c.checkpoint_of.new.store) c.checkpoint_of.ensures.ranges
 
 pub returns-in-None-clause-ranges : goal.returns-in-None-clause-ranges
 returns-in-None-clause-ranges g c =
-    blob_alone c.args.root.now (g.D.Store.holds c.args.store.now) (g.D.Store.reads c.args.store.now) (g.D.Store.reads c.checkpoint_of.new.store)
-    c.checkpoint_of.ensures.ranges
+    blob_alone c.args.root.now (g.D.Store.holds c.args.store.now) (g.D.Store.reads c.args.store.now)
+    (g.D.Store.reads c.checkpoint_of.new.store) c.checkpoint_of.ensures.ranges

@@ -19,15 +19,17 @@ pub returns-in_err-index-clause-ranges : goal.returns-in_err-index-clause-ranges
 returns-in_err-index-clause-ranges g c =
     let reads = g.D.Store.reads in
     let own = part_ranges c.args.part.now in
-    let texts = texts_ranges c.args.files.now in
-    (own ++ texts, (own, inl refl, refl), front_more own texts (reads c.args.store.now) (reads c.index_of.new.store) c.index_of.ensures.ranges)
+    let texts = texts_ranges c.args.files.now in (
+      own ++ texts,
+      (own, inl refl, refl),
+      front_more own texts (reads c.args.store.now) (reads c.index_of.new.store) c.index_of.ensures.ranges,
+    )
 
 pub returns-in-Some-clause-ranges : goal.returns-in-Some-clause-ranges
 returns-in-Some-clause-ranges g c =
     let reads = g.D.Store.reads in
     let own = part_ranges c.args.part.now in
-    let texts = texts_ranges c.args.files.now in
-    (
+    let texts = texts_ranges c.args.files.now in (
       own ++ texts,
       (own, inl refl, refl),
       front_joined own texts (reads c.args.store.now) (reads c.index_of.new.store) (reads c.compare_texts.new.store)
@@ -60,8 +62,7 @@ pub returns-in_err-first_broken-in-None-clause-ranges : goal.returns-in_err-firs
 returns-in_err-first_broken-in-None-clause-ranges g c =
     let reads = g.D.Store.reads in
     let texts = texts_ranges c.args.files.now in
-    let tries = c.in_ok-index.ensures.tried in
-    (
+    let tries = c.in_ok-index.ensures.tried in (
       tries.0 ++ texts,
       (tries.0, tries.1, refl),
       front_joined tries.0 texts (reads c.args.store.now) (reads c.index_of.new.store) (reads c.first_broken.new.store) tries.2
@@ -72,8 +73,7 @@ pub returns-in_ok-first_broken-in-None-clause-ranges : goal.returns-in_ok-first_
 returns-in_ok-first_broken-in-None-clause-ranges g c =
     let reads = g.D.Store.reads in
     let texts = texts_ranges c.args.files.now in
-    let tries = c.in_ok-index.ensures.tried in
-    (
+    let tries = c.in_ok-index.ensures.tried in (
       tries.0 ++ texts,
       (tries.0, tries.1, refl),
       front_joined tries.0 texts (reads c.args.store.now) (reads c.index_of.new.store) (reads c.first_broken.new.store) tries.2
