@@ -6,10 +6,13 @@ use Rattle.std.specs.Io.KnownBytes.{Appends}
 use Rattle.std.proofs.KnownBytes.{Appends-nil}
 use Rattle.wu_outside.specs.Crash.{Moments}
 use Rattle.wu_outside.specs.Gains.{GainsPrefix}
+use Rattle.wu_outside.specs.Ranges.{root_range}
 use Rattle.wu_outside.specs.declared.ranges.ReadRange.{ReadRange}
+use Rattle.wu_image.specs.declared.roots.TheConstants.{ROOT_LEN}
 use Rattle.wu_options.specs.CommandLines.{command_line_of}
 use Rattle.wu_options.specs.declared.command_lines.CommandLine.{CommandLine}
 use Rattle.wu_options.specs.declared.command_lines.CommandLine.TheVariants.{Run, Demo, Check}
+use Rattle.wu_check.specs.Reads.{MayBeRead, ReadsFrontOf}
 use Rattle.wu_check.specs.Wrong.{IsChecked}
 use Rattle.wu_check.specs.declared.checking.Checked.{Checked}
 use Rattle.wu_options.specs.declared.command_lines.Settings.{Settings}
@@ -25,6 +28,7 @@ use Rattle.wumpus_run.specs.Ended.{IsSession, KeepsBlobs, OpensOnly}
 use Rattle.wumpus_run.specs.Session.{AnswersPrefix, HoldsNothingBack, IsCounted, IsSpent, Moment, PutsOnlyDrawn, StaysWithin}
 use Rattle.wumpus_run.specs.Permitted.{AnswersInTurn, ReadsPermitted}
 use Rattle.wumpus_run.specs.Session.{LeavesAlone, StaysShut, session_settings, settings_of}
+use Rattle.wu_check.proofs.ReadRanges.{front_none}
 use Rattle.wumpus_run.proofs.CrashesAtEnd.{LeavesAcknowledged-untouched, LeavesSaves-untouched}
 use Rattle.wumpus_run.proofs.EarlierLemmas.{left_alone}
 use Rattle.wumpus_run.proofs.NamedCheckpoints.{checkpoint_same}
@@ -175,13 +179,20 @@ nothing_told : (status : Status) (holds : Option Content) (gained : Option (List
 nothing_told status None gained = tt
 nothing_told status (Some content) gained = inl (Appends-nil gained)
 
+nothing_read : (holds : Option Content) (reads : Option (List ReadRange))
+    → IfSome holds (λ content. ReadsFrontOf (MayBeRead content) reads reads)
+nothing_read None reads = tt
+nothing_read (Some content) reads =
+    let root = root_range ROOT_LEN ∷ [] in
+    (root, inl refl, front_none root reads reads refl)
+
 -- nothing was checked
-pub unchecked : (line : Option CommandLine) (before : Moment) (moments : Option Moments)
-    → IfCheck line (ChecksStore NoMemory before before moments moments)
-unchecked None before moments = tt
-unchecked (Some (Run settings)) before moments = tt
-unchecked (Some (Demo number)) before moments = tt
-unchecked (Some Check) before moments = record {
+pub unchecked : (line : Option CommandLine) (before : Moment) (moments : Option Moments) (reads : Option (List ReadRange))
+    → IfCheck line (ChecksStore NoMemory before before moments moments reads reads)
+unchecked None before moments reads = tt
+unchecked (Some (Run settings)) before moments reads = tt
+unchecked (Some (Demo number)) before moments reads = tt
+unchecked (Some Check) before moments reads = record {
   found = record {
     ends = inr (inr (inr refl));
     done = λ e. absurd (cc);
@@ -189,6 +200,7 @@ unchecked (Some Check) before moments = record {
   };
   holds = refl;
   moments = refl;
+  ranges = nothing_read before.holds reads;
 }
 
 -- a check ends in one of four ways

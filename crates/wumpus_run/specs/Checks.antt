@@ -4,10 +4,12 @@ use Rattle.std.specs.Io.KnownBytes.{Appends}
 use Rattle.wu_base.specs.declared.reports.Stat.{Stat}
 use Rattle.wu_outside.specs.Content.{Content}
 use Rattle.wu_outside.specs.Crash.{Moments}
+use Rattle.wu_outside.specs.declared.ranges.ReadRange.{ReadRange}
 use Rattle.wu_outside.specs.declared.traits.Fault.{Fault}
 use Rattle.wu_outside.specs.declared.traits.Fault.TheVariants.{Failed}
 use Rattle.wu_outside.specs.declared.traits.Fault.TheVariants as faults
 use Rattle.wu_outside.specs.Gains.{GainsPrefix}
+use Rattle.wu_check.specs.Reads.{MayBeRead, ReadsFrontOf}
 use Rattle.wu_check.specs.Wrong.{IsChecked}
 use Rattle.wu_check.specs.declared.checking.Checked.{Checked}
 use Rattle.wu_check.specs.declared.checking.Checked.TheVariants.{Sound, Broken}
@@ -47,11 +49,15 @@ pub record FindsStore (status : Status) (holds : Option Content) (before now : O
   pub prefix : IfSome holds (λ content. Appends before now []
       ⊎ ((checked : Checked) × IsChecked content checked × GainsPrefix before now (check_line checked)))
 
--- The store was checked, and is as it was, also for a crash. `old` and `new` are what one could leave before and after.
-pub record ChecksStore (status : Status) (before now : Moment) (old new : Option Moments) : Type 0 where
+-- The store was checked, and is as it was, also for a crash. `old` and `new` are what one could leave before and after, and `earlier` and
+-- `later` what had been read.
+pub record ChecksStore (status : Status) (before now : Moment) (old new : Option Moments) (earlier later : Option (List ReadRange))
+    : Type 0 where
   pub found : FindsStore status before.holds before.gained now.gained
   pub holds : now.holds ≡ before.holds
   pub moments : new ≡ old
+  -- the first ones were read of what there is to read, in that order, and nothing else
+  pub ranges : IfSome before.holds (λ content. ReadsFrontOf (MayBeRead content) earlier later)
 
 -- where the command line is that of a check
 abbrev pub IfCheck : Option CommandLine → Type 0 → Type 0

@@ -1,7 +1,8 @@
 //! A check of the store: what is wrong in it is told in one line.
-ghost use Rattle.std.specs.Prelude.{◌≡◌, ◌⊎◌, IfOk};
+ghost use Rattle.std.specs.Prelude.{◌≡◌, ◌⊎◌, IfOk, IfSome};
 ghost use Rattle.std.specs.Io.KnownBytes.{Appends};
 ghost use Rattle.wu_outside.specs.Gains.{GainsPrefix};
+ghost use Rattle.wu_check.specs.Reads.{MayBeRead, ReadsFrontOf};
 ghost use Rattle.wumpus_run.specs.Checks.{check_line, FindsStore, status_of_reading};
 ghost use Rattle.wumpus_run.specs.Session.{IsCounted};
 
@@ -14,11 +15,14 @@ use wu_check::{Checked, check};
 use wu_fields::put_decimal;
 use wu_outside::{Fault, Sink, Store};
 
-/// Checks the store, which stays as it is, and writes what is found to the sink, in one line.
+/// Checks the store, which stays as it is and is read once, and writes what is found to the sink,
+/// in one line.
 pub fn check_store<O: Sink, D: Store>(alloc: Global, sink: &mut O, store: &mut D) -> Status
     ensures found { FindsStore result (D.holds store.old) (O.gained sink.old) (O.gained sink.new) }
     ensures holds { D.holds store.new ≡ D.holds store.old }
     ensures moments { D.moments store.new ≡ D.moments store.old }
+    ensures ranges { IfSome (D.holds store.old) (λ content. ReadsFrontOf (MayBeRead content)
+        (D.reads store.old) (D.reads store.new)) }
     ensures write_fault { IsCounted Status.WriteFault result (O.faults sink.old) (O.faults sink.new) }
     ensures store_fault { IsCounted Status.StoreFault result (D.faults store.old) (D.faults store.new) }
 {

@@ -80,11 +80,13 @@ pub fn run<I: Source, O: Sink, D: Store>(
     ensures demo { IfDemo (command_line_of (texts_of words.now))
         (λ number. IsShown number result (O.gained sink.old) (O.gained sink.new)) }
     // Where they ask for a check, the sink gained the line that tells what is found of the store, or a prefix
-    // of it, and the store is as it was.
+    // of it, and the store is as it was. What was read of it is a front of this: the root, the
+    // checkpoint, and then each part, from left to right, and behind it the texts of its span, each
+    // once, but that of a part maybe its size alone was asked.
     ensures check { IfCheck (command_line_of (texts_of words.now)) (ChecksStore result
         (moment I.Source O.Sink D.Store source.old sink.old store.old)
         (moment I.Source O.Sink D.Store source.new sink.new store.new)
-        (D.moments store.old) (D.moments store.new)) }
+        (D.moments store.old) (D.moments store.new) (D.reads store.old) (D.reads store.new)) }
 
     // What was taken, written and saved, and which statuses come when.
     ensures session { IsSession result (settings_of (texts_of words.now))

@@ -50,12 +50,14 @@ returns-in-Err-clause-demo g c =
 pub returns-in-Err-clause-check : goal.returns-in-Err-clause-check
 returns-in-Err-clause-check g c =
     let before = moment g.I.Source g.O.Sink g.D.Store c.args.source.now c.args.sink.now c.args.store.now in
-    by-unasked (λ status. IfCheck (command_line_of (texts_of c.args.words.now)) (ChecksStore status before before (g.D.Store.moments
-    c.args.store.now) (g.D.Store.moments c.args.store.now))) c.read_command_line.result
+    let moments = g.D.Store.moments c.args.store.now in
+    let reads = g.D.Store.reads c.args.store.now in
+    by-unasked (λ status. IfCheck (command_line_of (texts_of c.args.words.now))
+    (ChecksStore status before before moments moments reads reads)) c.read_command_line.result
     (texts_of c.args.words.now) c.in-Err.status c.read_command_line.ensures c.in-Err.ensures
-    (unchecked (command_line_of (texts_of c.args.words.now)) before (g.D.Store.moments c.args.store.now))
-    (λ none. by_line (λ line. IfCheck line (ChecksStore Usage before before (g.D.Store.moments c.args.store.now) (g.D.Store.moments
-    c.args.store.now))) None (texts_of c.args.words.now) None refl none tt)
+    (unchecked (command_line_of (texts_of c.args.words.now)) before moments reads)
+    (λ none. by_line (λ line. IfCheck line (ChecksStore Usage before before moments moments reads reads)) None
+    (texts_of c.args.words.now) None refl none tt)
 
 pub returns-in-Err-clause-session : goal.returns-in-Err-clause-session
 returns-in-Err-clause-session g c =
@@ -329,7 +331,8 @@ returns-in-Ok-Demo-clause-check g c =
     by_line (λ line. IfCheck line (ChecksStore c.demo.result
     (moment g.I.Source g.O.Sink g.D.Store c.args.source.now c.args.sink.now c.args.store.now)
     (moment g.I.Source g.O.Sink g.D.Store c.args.source.now c.demo.new.sink c.args.store.now)
-    (g.D.Store.moments c.args.store.now) (g.D.Store.moments c.args.store.now))) (Some (Demo is.number)) (texts_of c.args.words.now) (Some
+    (g.D.Store.moments c.args.store.now) (g.D.Store.moments c.args.store.now)
+    (g.D.Store.reads c.args.store.now) (g.D.Store.reads c.args.store.now))) (Some (Demo is.number)) (texts_of c.args.words.now) (Some
     (Demo is.number))
     refl line tt
 
@@ -352,7 +355,8 @@ returns-in-Ok-Run-clause-check g c =
     by_line (λ line. IfCheck line (ChecksStore c.answer_script.result
     (moment g.I.Source g.O.Sink g.D.Store c.args.source.now c.args.sink.now c.args.store.now)
     (moment g.I.Source g.O.Sink g.D.Store c.answer_script.new.source c.answer_script.new.sink c.answer_script.new.store)
-    (g.D.Store.moments c.args.store.now) (g.D.Store.moments c.answer_script.new.store))) (Some (Run is.settings)) (texts_of
+    (g.D.Store.moments c.args.store.now) (g.D.Store.moments c.answer_script.new.store)
+    (g.D.Store.reads c.args.store.now) (g.D.Store.reads c.answer_script.new.store))) (Some (Run is.settings)) (texts_of
     c.args.words.now) (Some (Run is.settings))
     refl line tt
 
@@ -455,5 +459,6 @@ returns-in-Ok-Check-clause-check g c =
     let none = check_asked (Some Check) (texts_of c.args.words.now) refl line in
     let r = c.check_store.ensures in
     by_line (λ line. IfCheck line (ChecksStore c.check_store.result before now (g.D.Store.moments c.args.store.now)
-    (g.D.Store.moments c.check_store.new.store))) (Some Check) (texts_of c.args.words.now) (Some Check)
-    refl line (record { found = r.found; holds = r.holds; moments = r.moments })
+    (g.D.Store.moments c.check_store.new.store) (g.D.Store.reads c.args.store.now) (g.D.Store.reads c.check_store.new.store)))
+    (Some Check) (texts_of c.args.words.now) (Some Check)
+    refl line (record { found = r.found; holds = r.holds; moments = r.moments; ranges = r.ranges })
