@@ -21,9 +21,9 @@ use Rattle.wu_engine.specs.declared.faults.BeginFault.TheVariants as faults
 use Rattle.wu_engine.specs.Begun.{SyncsOnly}
 use Rattle.wu_engine.specs.Opened.{AsksCheckpoint, AsksFound, FindsRoot, IsFoundIn, IsSettled, MatchesRoot, ReadsCheckpoint}
 use Rattle.wu_engine.specs.Opened.{TakesCheckpoint}
-use Rattle.wu_engine.specs.Opening.{HasCheckpoint, HasOpenRoot, HasSizedCheckpoint, HoldsImage, IsBeginCause, IsDamagedAtOpening}
-use Rattle.wu_engine.specs.Opening.{IsIndexRange, IsOpen, IsOpeningRange, IsSpentWhere, Opens, OpensIndex, ReadsAtMostRoot}
-use Rattle.wu_engine.specs.Opening.{ReadsAtOpening, ReadsRoot, checkpoint_range, checkpoint_ranges, opening_root}
+use Rattle.wu_engine.specs.Opening.{AreReadAtOpening, AreReadUnderRoot, HasCheckpoint, HasOpenRoot, HasSizedCheckpoint, HoldsImage}
+use Rattle.wu_engine.specs.Opening.{IsBeginCause, IsDamagedAtOpening, IsIndexRange, IsOpen, IsSpentWhere, Opens, OpensIndex}
+use Rattle.wu_engine.specs.Opening.{ReadsAtMostRoot, ReadsAtOpening, ReadsRoot, checkpoint_range, checkpoint_ranges, opening_root}
 use Rattle.wu_engine.specs.Reindexed.{ReadsIndex}
 use Rattle.wu_engine.proofs.ImageStates.{image_undamaged}
 use Rattle.wu_engine.proofs.LeftImages.{opened_durable, opened_left}
@@ -77,18 +77,18 @@ checkpoint_found (Some content) root found h checkpoint own =
 
 -- ---- reads
 
--- what is read at the opening of any store
-on_any_store : (holds : Option Content) (read : List ReadRange) → ((content : Content) → AllByRecursion (IsOpeningRange content) read)
-    → IfSome holds (λ content. AllByRecursion (IsOpeningRange content) read)
-on_any_store None read all = tt
-on_any_store (Some content) read all = all content
+-- what is so of each content is so of what any store holds
+on_any_store : (Is : Content → Type 0) (holds : Option Content) → ((content : Content) → Is content) → IfSome holds Is
+on_any_store Is None all = tt
+on_any_store Is (Some content) all = all content
 
 -- the root, or nothing
 pub reads_root : (holds : Option Content) (before after : Option (List ReadRange)) → ReadsAtMostRoot before after
     → ReadsAtOpening holds before after
-reads_root holds before after (inl same) = ([], on_any_store holds [] (λ content. tt), same ∙ ranges-none before)
+reads_root holds before after (inl same) =
+    ([], on_any_store (λ content. AreReadAtOpening content []) holds (λ content. tt), same ∙ ranges-none before)
 reads_root holds before after (inr read) =
-    (opening_root ∷ [], on_any_store holds (opening_root ∷ []) (λ content. (inl refl, tt)), read)
+    (opening_root ∷ [], on_any_store (λ content. AreReadAtOpening content (opening_root ∷ [])) holds (λ content. (refl, inl refl)), read)
 
 -- there is none
 pub opens_first : (holds : Option Content) (before after : Option (List ReadRange)) → ReadsRoot before after
@@ -100,11 +100,12 @@ opens_first holds before after read none = (opening_root ∷ [], root_alone hold
     root_alone (Some content) h = inl (h, refl)
 
 module _ (root : Root) where
-  size_opening : (content : Content) → HasOpenRoot content root → IsOpeningRange content (asked_size root.checkpoint)
-  size_opening content roomy = inr (root, roomy, inl (inl refl))
-
-  checkpoint_opening : (content : Content) → HasOpenRoot content root → IsOpeningRange content (checkpoint_range root)
-  checkpoint_opening content roomy = inr (root, roomy, inl (inr (inl refl)))
+  -- the root, which leaves room, and under it such ranges
+  under_root : (holds : Option Content) (read : List ReadRange) → IfSome holds (λ content. HasOpenRoot content root)
+      → IfSome holds (λ content. AreReadUnderRoot content root read)
+      → IfSome holds (λ content. AreReadAtOpening content (opening_root ∷ read))
+  under_root None read roomy are = tt
+  under_root (Some content) read roomy are = (refl, inr (root, roomy, are))
 
   -- once the root was read the size of its checkpoint was asked
   read_then_asked : (first middle last : Option (List ReadRange)) → ReadsRoot first middle → AsksCheckpoint root middle last
@@ -124,12 +125,12 @@ module _ (root : Root) where
 
   reads_found : (holds : Option Content) (before after : Option (List ReadRange)) → IfSome holds (λ content. HasOpenRoot content root)
       → AsksFound (Some root) before after → ReadsAtOpening holds before after
-  reads_found holds before after roomy asked = (opening_root ∷ asked_size root.checkpoint ∷ [], one_asked holds roomy, asked)
-    where
-      one_asked : (held : Option Content) → IfSome held (λ content. HasOpenRoot content root)
-          → IfSome held (λ content. AllByRecursion (IsOpeningRange content) (opening_root ∷ asked_size root.checkpoint ∷ []))
-      one_asked None h = tt
-      one_asked (Some content) h = (inl refl, (size_opening content h, tt))
+  reads_found holds before after roomy asked = (
+    opening_root ∷ asked_size root.checkpoint ∷ [],
+    under_root holds (asked_size root.checkpoint ∷ []) roomy
+        (on_any_store (λ content. AreReadUnderRoot content root (asked_size root.checkpoint ∷ [])) holds (λ content. inl refl)),
+    asked,
+  )
 
   -- the root, and then only the size of its checkpoint, or nothing
   pub reads_size : (holds : Option Content) (first middle last : Option (List ReadRange))
@@ -144,20 +145,19 @@ module _ (root : Root) where
       → IfSome holds (λ content. HasOpenRoot content root) → AsksFound (Some root) first middle
       → (last ≡ middle) ⊎ TakesCheckpoint root middle last → ReadsAtOpening holds first last
   reads_checkpoint holds first middle last roomy asked (inl same) = reads_found holds first last roomy (same ∙ asked)
-  reads_checkpoint holds first middle last roomy asked (inr taken) =
-      (opening_root ∷ checkpoint_ranges root, one_read holds roomy, asked_then_taken first middle last asked taken)
-    where
-      one_read : (held : Option Content) → IfSome held (λ content. HasOpenRoot content root)
-          → IfSome held (λ content. AllByRecursion (IsOpeningRange content) (opening_root ∷ checkpoint_ranges root))
-      one_read None h = tt
-      one_read (Some content) h = (inl refl, (size_opening content h, (checkpoint_opening content h, tt)))
+  reads_checkpoint holds first middle last roomy asked (inr taken) = (
+    opening_root ∷ checkpoint_ranges root,
+    under_root holds (checkpoint_ranges root) roomy
+        (on_any_store (λ content. AreReadUnderRoot content root (checkpoint_ranges root)) holds (λ content. inr (inl refl))),
+    asked_then_taken first middle last asked taken,
+  )
 
   module _ (checkpoint : Checkpoint) where
-    index_opening : (content : Content) → HasOpenRoot content root → HasCheckpoint content root checkpoint → (read : List ReadRange)
-        → AllByRecursion (IsIndexRange content root.version checkpoint) read → AllByRecursion (IsOpeningRange content) read
-    index_opening content roomy has [] a = tt
-    index_opening content roomy has (range ∷ read) a =
-        (inr (root, roomy, inr (checkpoint, has, a.0)), index_opening content roomy has read a.1)
+    index_under : (holds : Option Content) (later : List ReadRange) → IfSome holds (λ content. HasCheckpoint content root checkpoint)
+        → IfSome holds (λ content. AllByRecursion (IsIndexRange content root.version checkpoint) later)
+        → IfSome holds (λ content. AreReadUnderRoot content root (checkpoint_ranges root ++ later))
+    index_under None later has all = tt
+    index_under (Some content) later has all = inr (inr (checkpoint, has, later, all, refl))
 
     -- root and checkpoint, and then of its index
     pub reads_index : (holds : Option Content) (before between after : Option (List ReadRange))
@@ -166,19 +166,11 @@ module _ (root : Root) where
         → ReadsAtOpening holds before after
     reads_index holds before between after roomy has first later = (
       opening_root ∷ checkpoint_ranges root ++ later.0,
-      all_opening holds roomy has later.1,
+      under_root holds (checkpoint_ranges root ++ later.0) roomy (index_under holds later.0 has later.1),
       later.2
           ∙ (ap (option_map (λ (earlier : List ReadRange). earlier ++ later.0)) first
           ∙ reads_joined before (opening_root ∷ checkpoint_ranges root) later.0),
     )
-      where
-        all_opening : (held : Option Content) → IfSome held (λ content. HasOpenRoot content root)
-            → IfSome held (λ content. HasCheckpoint content root checkpoint)
-            → IfSome held (λ content. AllByRecursion (IsIndexRange content root.version checkpoint) later.0)
-            → IfSome held (λ content. AllByRecursion (IsOpeningRange content) (opening_root ∷ checkpoint_ranges root ++ later.0))
-        all_opening None o h a = tt
-        all_opening (Some content) o h a =
-            (inl refl, (size_opening content o, (checkpoint_opening content o, index_opening content o h later.0 a)))
 
     pub opens_saved : (holds : Option Content) (before between after : Option (List ReadRange)) (read : List ReadRange)
         → IfSome holds (λ content. HasOpenRoot content root) → IfSome holds (λ content. HasCheckpoint content root checkpoint)

@@ -1,6 +1,6 @@
 -- How an engine is opened over a store: from the root, the checkpoint that it names, and then, by the version of the root, the parts or
 -- the texts that this records.
-use Rattle.std.specs.Prelude.{◌≡◌, ◌⊎◌, ℕ, ◌≤◌, nat_le, if◌then◌else◌, List, [], ◌∷◌, ◌++◌, Option, None, Some, IfSome, option_map}
+use Rattle.std.specs.Prelude.{◌≡◌, ◌⊎◌, ⊤, ℕ, ◌≤◌, nat_le, if◌then◌else◌, List, [], ◌∷◌, ◌++◌, Option, None, Some, IfSome, option_map}
 use Rattle.std.specs.Prelude.{Err, Result}
 use Rattle.std.specs.List.{AllByRecursion}
 use Rattle.wu_base.specs.declared.troubles.Trouble.{Trouble}
@@ -89,18 +89,25 @@ IsIndexRange content version checkpoint range =
     (version ≡ 2) × SomeOf (IsFrontOf (Some content) range) checkpoint.parts
     ⊎ (version ≡ 1) × IsTextOfOne checkpoint.files range
 
--- the range is the root's, the checkpoint's or its size's, or one of its index
-abbrev pub IsOpeningRange : Content → ReadRange → Type 0
-IsOpeningRange content range =
-    (opening_root ≡ range)
-    ⊎ ((root : Root) × HasOpenRoot content root
-    × (SomeOf (λ one. one ≡ range) (checkpoint_ranges root)
-    ⊎ ((checkpoint : Checkpoint) × HasCheckpoint content root checkpoint × IsIndexRange content root.version checkpoint range)))
+-- the size of the root's checkpoint alone; or that, and then the checkpoint; or both, and then such ranges of the index that it records
+abbrev pub AreReadUnderRoot : Content → Root → List ReadRange → Type 0
+AreReadUnderRoot content root read =
+    (read ≡ asked_size root.checkpoint ∷ [])
+    ⊎ ((read ≡ checkpoint_ranges root)
+    ⊎ ((checkpoint : Checkpoint) × HasCheckpoint content root checkpoint × (later : List ReadRange)
+    × AllByRecursion (IsIndexRange content root.version checkpoint) later × (read ≡ checkpoint_ranges root ++ later)))
 
--- nothing else was read
+-- What an opening reads, as far as it comes: nothing; or the root first, and then nothing, or, where the root leaves room, these ranges.
+abbrev pub AreReadAtOpening : Content → List ReadRange → Type 0
+AreReadAtOpening content [] = ⊤
+AreReadAtOpening content (first ∷ later) =
+    (first ≡ opening_root) × ((later ≡ []) ⊎ ((root : Root) × HasOpenRoot content root × AreReadUnderRoot content root later))
+
+-- they were read, and nothing else
 abbrev pub ReadsAtOpening : Option Content → Option (List ReadRange) → Option (List ReadRange) → Type 0
 ReadsAtOpening holds before after =
-    (read : List ReadRange) × IfSome holds (λ content. AllByRecursion (IsOpeningRange content) read) × (after ≡ option_map (λ earlier. earlier ++ read) before)
+    (read : List ReadRange) × IfSome holds (λ content. AreReadAtOpening content read)
+    × (after ≡ option_map (λ earlier. earlier ++ read) before)
 
 -- ---- faults
 
