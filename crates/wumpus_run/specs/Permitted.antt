@@ -11,7 +11,7 @@ use Rattle.wu_script.specs.Said.{Asks, Happens, IsRefused, Operates, Said, SaysN
 use Rattle.wu_options.specs.declared.command_lines.Settings.{Settings}
 use Rattle.wu_query.specs.Permitted.{AreReadForQuery}
 use Rattle.wu_query.specs.States.{State}
-use Rattle.wu_engine.specs.Opening.{IsOpeningRange, Opens}
+use Rattle.wu_engine.specs.Opening.{AreReadAtOpening, Opens}
 use Rattle.wu_engine.specs.Permitted.{MayReadForWork}
 use Rattle.wumpus_run.specs.declared.statuses.Status.{Status}
 use Rattle.wumpus_run.specs.declared.statuses.Status.TheVariants.{Done, Usage, ReadFault, WriteFault, NoMemory, InputTooLong, StoreFault}
@@ -77,14 +77,14 @@ AnswersInTurn start status settings before now = IfSome settings (λ told. IfSom
 
 -- First what one opening of a store with that content reads, and then what the items do that were answered and the one under way: for the
 -- later ones nothing is read. Or the opening stopped and with it the session, before it took or wrote a byte, and so before all items: then
--- some of the ranges that an opening reads, and no other.
+-- no more than an opening that fails may read, in its order.
 pub record ReadsInSession (content : Content) (rules : Rules) (start : State) (items : List Entry) (status : Status) (before now : Moment)
     (old new : Option (List ReadRange)) : Type 0 where
   pub came : Reaches rules start items status before.gained now.gained
   pub opening : List ReadRange
   pub read : List ReadRange
   pub once : Opens content opening
-      ⊎ AllByRecursion (IsOpeningRange content) opening × (came.answered ≡ []) × (came.under_way ≡ None) × IsUnopened status before now
+      ⊎ AreReadAtOpening content opening × (came.answered ≡ []) × (came.under_way ≡ None) × IsUnopened status before now
   pub for_items : AreReadInTurn (met_by rules start (came.answered ++ option_to_list came.under_way)) read
   pub in_turn : new ≡ option_map (λ earlier. earlier ++ (opening ++ read)) old
 
