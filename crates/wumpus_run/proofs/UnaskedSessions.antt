@@ -1,5 +1,5 @@
 -- Where no session is asked for, or the arguments couldn't be read, nothing is taken and the store stays as it is.
-use Rattle.std.proofs.Common.{◌≡◌, ◌⊎◌, inl, inr, ℕ, List, [], Option, None, Some, refl, ap, sym, subst, ◌∙◌, ⊎_elim}
+use Rattle.std.proofs.Common.{◌≡◌, ◌⊎◌, inl, inr, ℕ, List, [], ◌∷◌, Option, None, Some, refl, ap, sym, subst, ◌∙◌, ⊎_elim}
 use Rattle.std.specs.Prelude.{IfSome, option_and_then}
 use Rattle.wu_outside.specs.Content.{Content}
 use Rattle.std.specs.Io.KnownBytes.{Appends}
