@@ -18,12 +18,12 @@ from pathlib import Path
 SERVICE = Path(__file__).resolve().parent.parent / "service"
 sys.path.insert(0, str(SERVICE))
 
-from wumpus import look  # noqa: E402
-from wumpus.batch import Batch  # noqa: E402
-from wumpus.mirror import Mirror, Wish  # noqa: E402
-from wumpus.mirror_command import one_turn  # noqa: E402
-from wumpus.progress import Progress  # noqa: E402
-from wumpus.walk import Limits  # noqa: E402
+from wumpus.mirror import look  # noqa: E402
+from wumpus.mirror.batch import Batch  # noqa: E402
+from wumpus.mirror.command import one_turn  # noqa: E402
+from wumpus.mirror.turn import Mirror, Wish  # noqa: E402
+from wumpus.mirror.walk import Limits  # noqa: E402
+from wumpus.shared.progress import Progress  # noqa: E402
 
 IN_DIRECTORY = 100
 TEXT = b"all work and no play makes a dull file number %d\n"

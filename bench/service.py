@@ -21,7 +21,7 @@ from typing import IO
 SERVICE = Path(__file__).resolve().parent.parent / "service"
 sys.path.insert(0, str(SERVICE))
 
-from wumpus.script import lines_after  # noqa: E402
+from wumpus.shared.script import lines_after  # noqa: E402
 
 USER = 12345
 TICKS = os.sysconf("SC_CLK_TCK")

@@ -2,6 +2,8 @@
 # WUMPUS is the built program, and PREFIX and DESTDIR are those of the file that includes this one.
 SERVICE_SBIN := wumpus-mirror wumpusd
 SERVICE_BIN := wumpus-ask wumpus-lint
+SERVICE_PACKAGES := $(notdir $(patsubst %/,%,$(dir $(wildcard service/wumpus/*/__init__.py))))
+SERVICE_SCRIPTS := $(shell grep -slI '^\#!.*python3' $(wildcard tools/* bench/*) 2>/dev/null | grep -v '\.py$$')
 SERVICE_TESTS := plan state mirror look client limits service neighbours kernel race
 SERVICE_TEST_PROGRAM ?= $(abspath $(WUMPUS))
 UNITDIR ?= $(PREFIX)/lib/systemd/system
@@ -20,7 +22,11 @@ install-service:
 		lib/sysusers.d) $(DESTDIR)$(UNITDIR) $(DESTDIR)$(SYSCONFDIR)/default
 	install -m 755 $(addprefix service/,$(SERVICE_BIN)) $(DESTDIR)$(PREFIX)/bin
 	install -m 755 $(addprefix service/,$(SERVICE_SBIN)) $(DESTDIR)$(PREFIX)/sbin
-	install -m 644 service/wumpus/*.py $(DESTDIR)$(PREFIX)/share/wumpus/wumpus
+	for name in . $(SERVICE_PACKAGES); do \
+		install -d $(DESTDIR)$(PREFIX)/share/wumpus/wumpus/$$name || exit; \
+		install -m 644 service/wumpus/$$name/*.py \
+			$(DESTDIR)$(PREFIX)/share/wumpus/wumpus/$$name || exit; \
+	done
 	install -m 644 service/man/*.1 $(DESTDIR)$(PREFIX)/share/man/man1
 	install -m 644 service/man/*.8 $(DESTDIR)$(PREFIX)/share/man/man8
 	for name in wumpus $(SERVICE_BIN) $(SERVICE_SBIN); do \
@@ -43,11 +49,20 @@ service-test:
 			--program $(SERVICE_TEST_PROGRAM) || failed=1; \
 	done; exit $$failed
 
+# A tool that isn't there is told, and what it checks is left out.
 service-check:
-	cd service && mypy --strict wumpus tests ../bench/service.py ../bench/many.py ../bench/beside.py
-	mandoc -Tlint -W warning docs/wumpus.1 service/man/*
-	bash -n service/completions/wumpus.bash
-	zsh -n service/completions/_wumpus
+	@failed=0; \
+	check() { \
+		if command -v $$1 >/dev/null; then echo "$$@" && "$$@" || failed=1; \
+		else echo "service-check: $$1 is missing: $$2 .. isn't run"; fi; \
+	}; \
+	check mypy service/wumpus service/tests bench/*.py; \
+	for script in $(SERVICE_SCRIPTS); do check mypy --scripts-are-modules $$script; done; \
+	check ruff check service bench tools; \
+	check mandoc -Tlint -W warning docs/wumpus.1 service/man/*; \
+	check bash -n service/completions/wumpus.bash; \
+	check zsh -n service/completions/_wumpus; \
+	exit $$failed
 
 # The package has the proved program. No network is used.
 deb: all

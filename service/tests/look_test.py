@@ -16,11 +16,11 @@ from unittest import mock
 
 from harness import Score, folder_of_own, needs_program, options
 
-from wumpus import look  # isort: skip
-from wumpus.mirror import Mirror, Wish  # isort: skip
-from wumpus.progress import Progress  # isort: skip
-from wumpus.reach import Direct  # isort: skip
-from wumpus.walk import Limits  # isort: skip
+from wumpus.mirror import look  # isort: skip
+from wumpus.mirror.turn import Mirror, Wish  # isort: skip
+from wumpus.shared.progress import Progress  # isort: skip
+from wumpus.mirror.reach import Direct  # isort: skip
+from wumpus.mirror.walk import Limits  # isort: skip
 
 ASKER = 4321
 SECRET = b"secret secret\n"

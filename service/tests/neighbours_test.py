@@ -15,15 +15,23 @@ from unittest import mock
 from harness import SERVICE, Score, folder_of_own, needs_program, needs_root, options
 from kernel import User, become
 from mirror_test import Place
-from service_test import ANN, BOB, Served, as_user, ask_here, kill_program, mirror_until_done
-from service_test import wait_for
+from service_test import (
+    ANN,
+    BOB,
+    Served,
+    as_user,
+    ask_here,
+    kill_program,
+    mirror_until_done,
+    wait_for,
+)
 
-from wumpus import mounts  # isort: skip
-from wumpus.mirror import Mirror, Turn, Wish  # isort: skip
-from wumpus.progress import Progress  # isort: skip
-from wumpus.reach import Direct  # isort: skip
-from wumpus.state import State  # isort: skip
-from wumpus.walk import Limits  # isort: skip
+from wumpus.mirror import mounts  # isort: skip
+from wumpus.mirror.turn import Mirror, Turn, Wish  # isort: skip
+from wumpus.shared.progress import Progress  # isort: skip
+from wumpus.mirror.reach import Direct  # isort: skip
+from wumpus.mirror.state import State  # isort: skip
+from wumpus.mirror.walk import Limits  # isort: skip
 
 COUNT = b'count\t"apple"'
 

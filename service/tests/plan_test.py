@@ -11,9 +11,9 @@ from dataclasses import dataclass, field
 
 from harness import Score, options
 
-from wumpus.nodes import CLOSED, ROOT, Node, Rights, Tree  # isort: skip
-from wumpus.plan import Groups, Plan, plan_all  # isort: skip
-from wumpus.script import unescape  # isort: skip
+from wumpus.mirror.nodes import CLOSED, ROOT, Node, Rights, Tree  # isort: skip
+from wumpus.mirror.plan import Groups, Plan, plan_all  # isort: skip
+from wumpus.shared.script import unescape  # isort: skip
 
 USERS = (5, 6, 7, 8)
 

@@ -23,12 +23,12 @@ from unittest import mock
 from harness import Pace, Score, folder_of_own, needs_program, needs_root, options, quick_folder
 from kernel import User, become
 
-from wumpus import way  # isort: skip
-from wumpus.mirror import Mirror, Wish  # isort: skip
-from wumpus.program import die_with_parent  # isort: skip
-from wumpus.progress import Progress  # isort: skip
-from wumpus.reach import Direct  # isort: skip
-from wumpus.walk import Limits  # isort: skip
+from wumpus.mirror import way  # isort: skip
+from wumpus.mirror.turn import Mirror, Wish  # isort: skip
+from wumpus.shared.program import die_with_parent  # isort: skip
+from wumpus.shared.progress import Progress  # isort: skip
+from wumpus.mirror.reach import Direct  # isort: skip
+from wumpus.mirror.walk import Limits  # isort: skip
 
 YOUNG = 0.02  # seconds in which two changes may have one ctime: two ticks of the slowest clock
 OWNER = User(1000, (1000,))

@@ -7,8 +7,8 @@ from pathlib import Path
 
 from harness import Score, folder_of_own, options
 
-from wumpus.nodes import FIRST, ROOT, Node, Rights, Tree, first_tree  # isort: skip
-from wumpus.state import FORMAT, PIECE, Addition, Files, State, read_state, spell_state  # isort: skip
+from wumpus.mirror.nodes import FIRST, ROOT, Node, Rights, Tree, first_tree  # isort: skip
+from wumpus.mirror.state import FORMAT, PIECE, Addition, Files, State, read_state, spell_state  # isort: skip
 
 SIZES = (0, 1, PIECE - 1, PIECE, PIECE + 1, 3 * PIECE + 5)
 

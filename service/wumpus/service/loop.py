@@ -15,12 +15,12 @@ from enum import Enum
 from pathlib import Path
 from typing import BinaryIO
 
-from . import queries
+from ..shared import queries
+from ..shared.program import PIECE, Ended, Program
+from ..shared.script import BadReply, escape, lines_after, spell_user, unescape
+from ..shared.store import move_aside
 from .clients import Bounds, Clients, Query
 from .control import Control, Controls
-from .program import PIECE, Ended, Program
-from .reach import move_aside
-from .script import BadReply, escape, lines_after, spell_user, unescape
 from .turns import Turns
 
 WORK = b"work\t200\n"

@@ -6,9 +6,9 @@ import tempfile
 from pathlib import Path
 from typing import IO
 
+from ..shared.script import TEXT_MAX, spell
 from .nodes import CLOSED, MARK, ROOT
 from .plan import Plan
-from .script import TEXT_MAX, spell
 
 CLOSED_NAME = b".wumpus-mirror"
 SAVE = b"save\n"

@@ -6,8 +6,8 @@ import socket
 from collections.abc import Callable
 from dataclasses import dataclass, field
 
-from .peers import peer_of
-from .program import PIECE
+from ..shared.peers import peer_of
+from ..shared.program import PIECE
 
 RESET = b"reset\n"
 

@@ -6,9 +6,17 @@ from collections.abc import Iterator
 from dataclasses import dataclass
 from pathlib import Path
 
-from . import VERSION
-from .progress import plain
-from .script import LINE_MAX, NUMBER_MAX, SHOWN_MAX, TEXT_MAX, BadReply, lines_after, unescape
+from .. import VERSION
+from ..shared.progress import plain
+from ..shared.script import (
+    LINE_MAX,
+    NUMBER_MAX,
+    SHOWN_MAX,
+    TEXT_MAX,
+    BadReply,
+    lines_after,
+    unescape,
+)
 
 NONE, REFUSED, TROUBLE = 0, 1, 2
 LENGTH_MAX = 1 << 40

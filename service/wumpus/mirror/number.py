@@ -7,8 +7,8 @@ writes anew and renames is a change of text, and devices may be numbered anew.
 
 from collections.abc import Iterator
 
+from ..shared.script import NUMBER_MAX
 from .nodes import FIRST, ROOT, Node, Tree
-from .script import NUMBER_MAX
 from .walk import Walk
 from .way import Found
 

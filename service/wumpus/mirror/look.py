@@ -11,9 +11,9 @@ import time
 from collections.abc import Callable, Iterator
 from dataclasses import dataclass
 
+from ..shared.script import TEXT_MAX
 from .access import BadList, rights_at
 from .nodes import Node, Rights, identity_of
-from .script import TEXT_MAX
 from .walk import ATTEMPTS
 from .way import DIRECTORY_FLAGS, Found, Patience, Torn, Way
 

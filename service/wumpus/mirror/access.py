@@ -4,8 +4,8 @@ import errno
 import os
 import struct
 
+from ..shared.script import LINE_MAX
 from .nodes import Rights
-from .script import LINE_MAX
 
 ATTRIBUTE = "system.posix_acl_access"
 _VERSION = 2

@@ -9,17 +9,16 @@ import time
 from pathlib import Path
 from types import FrameType
 
-from . import VERSION
-from .mirror import Mirror, Report, Wish, dry_run
+from .. import VERSION
+from ..shared.progress import Progress, plain
+from ..shared.store import CONTROL, FOLDER, SOCKETS, Failed, only_one
 from .nodes import Identity, identity_of
-from .progress import Progress, plain
-from .reach import CONTROL, Direct, Failed, Served, Unanswered, only_one
+from .reach import Direct, Served, Unanswered
 from .state import BadState
+from .turn import Mirror, Report, Wish, dry_run
 from .users import BadUsers, of_file, of_system
 from .walk import BadRoot, Limits
 
-FOLDER = "/var/lib/wumpus"
-SOCKETS = "/run/wumpus"
 SOON = 2.0  # seconds after which a service that wasn't there is looked for again
 
 

@@ -10,10 +10,10 @@ import time
 from collections.abc import Callable
 from dataclasses import dataclass, field
 
-from . import queries
-from .peers import NOBODY, Peer, peer_of
-from .program import PIECE
-from .script import spell_user
+from ..shared import queries
+from ..shared.peers import NOBODY, Peer, peer_of
+from ..shared.program import PIECE
+from ..shared.script import spell_user
 
 
 @dataclass(frozen=True)

@@ -14,13 +14,13 @@ from dataclasses import dataclass
 from pathlib import Path
 from typing import Any
 
-from . import VERSION
+from .. import VERSION
+from ..shared.progress import plain
+from ..shared.queries import QUERY_MAX
+from ..shared.script import SHOWN_MAX, TEXT_MAX, BadReply, lines_after, spell, unescape
+from ..shared.store import SOCKETS
+from ..shared.words import WORDS_OF_RANKING, spans_of, words_of
 from .habits import about_expression, about_words
-from .mirror_command import SOCKETS
-from .progress import plain
-from .queries import QUERY_MAX
-from .script import SHOWN_MAX, TEXT_MAX, BadReply, lines_after, spell, unescape
-from .words import WORDS_OF_RANKING, spans_of, words_of
 
 FOUND, NONE, TROUBLE = 0, 1, 2
 LINES_OF_FILE = 3

@@ -8,8 +8,8 @@ import os
 import pwd
 from pathlib import Path
 
+from ..shared.script import NUMBER_MAX, spell_user
 from .plan import Groups
-from .script import NUMBER_MAX, spell_user
 
 
 class BadUsers(Exception):

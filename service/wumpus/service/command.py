@@ -10,14 +10,11 @@ import time
 from pathlib import Path
 from types import FrameType
 
-from . import VERSION
+from .. import VERSION
+from ..shared.program import Program, die_with_parent
+from ..shared.store import ASK, CONTROL, FOLDER, SOCKETS, Failed, check_own, only_program
 from .clients import Bounds
-from .mirror_command import FOLDER, SOCKETS
-from .program import Program, die_with_parent
-from .reach import CONTROL, Failed, check_own, only_program
-from .service import Service
-
-ASK = "ask"
+from .loop import Service
 
 
 def parser() -> argparse.ArgumentParser:

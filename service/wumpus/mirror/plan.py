@@ -10,8 +10,8 @@ from collections import Counter
 from collections.abc import Iterator
 from dataclasses import dataclass, field, replace
 
+from ..shared.script import spell, spell_mode
 from .nodes import CLOSED, ROOT, Node, Rights, Tree, meet
-from .script import spell, spell_mode
 
 Groups = dict[int, tuple[int, ...]]
 Pairs = list[tuple[Node, Node]]  # of one node each, before and after

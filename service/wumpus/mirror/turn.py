@@ -7,14 +7,15 @@ from dataclasses import dataclass, field
 from pathlib import Path
 from typing import BinaryIO
 
+from ..shared.progress import Progress
+from ..shared.script import spell
+from ..shared.store import Failed
 from .batch import CLOSED_NAME, Batch, Texts, question
 from .look import Looked, Looker, Place, places_of
 from .nodes import MARK, ROOT, Identity, Node, Rights, Tree
 from .number import directories_of, give_numbers
 from .plan import Groups, Pairs, Plan, plan_all, plan_nodes
-from .progress import Progress
-from .reach import Failed, Reach
-from .script import spell
+from .reach import Reach
 from .state import Addition, BadState, Files, State, apply, new_serial, read_state
 from .walk import ATTEMPTS, BadRoot, Limits, Walk
 from .way import Found, Patience, Seen

@@ -15,10 +15,10 @@ import time
 from collections.abc import Callable
 from dataclasses import dataclass
 
+from ..shared.script import DEPTH_MAX, NAME_MAX
 from .access import BadList, rights_at
 from .mounts import file_systems_left_out
 from .nodes import Identity, Node, Rights, Tree, device_of, identity_of
-from .script import DEPTH_MAX, NAME_MAX
 from .way import DIRECTORY_FLAGS, NO_ENTRIES, Found, Patience, Seen, Step, Torn, Way
 
 ATTEMPTS = 5

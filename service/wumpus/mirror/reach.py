@@ -7,29 +7,19 @@ answer to the last three, or `failed WHY`.
 """
 
 import contextlib
-import fcntl
 import os
-import shutil
 import socket
-import stat
-from collections.abc import Iterator
 from pathlib import Path
 from typing import Protocol
 
+from ..shared.peers import peer_of
+from ..shared.program import Ended, Program, Refused, Talk
+from ..shared.script import escape, unescape
+from ..shared.store import Failed, move_aside, only_program
 from .batch import Batch
-from .peers import peer_of
-from .program import Ended, Program, Refused, Talk
-from .script import escape, unescape
 
-STORE = "wumpus-store"
-ASIDE = "wumpus-store.old"
-CONTROL = "control"
 WORK = b"work\t100000\n"
 END_SECONDS = 600.0
-
-
-class Failed(Exception):
-    """What was asked of the program wasn't done; the text says why."""
 
 
 class Unanswered(Failed):
@@ -53,40 +43,6 @@ class Reach(Protocol):
 
     def close(self) -> None:
         """Ends the connection, or the program."""
-
-
-@contextlib.contextmanager
-def only_one(path: Path, who: str) -> Iterator[None]:
-    """Holds the lock of a file, which is made. Raises `Failed` where another process has it."""
-    # Reading is enough for a lock, and so one that user 0 made is no hindrance to the unit's user.
-    flags = os.O_RDONLY | os.O_CREAT | os.O_NOFOLLOW | os.O_CLOEXEC
-    with open(os.open(path, flags, 0o644), "rb") as lock:
-        try:
-            fcntl.flock(lock, fcntl.LOCK_EX | fcntl.LOCK_NB)
-        except BlockingIOError as error:
-            raise Failed(f"{who} is at work in {path.parent}") from error
-        yield
-
-
-def check_own(folder: Path) -> None:
-    """Raises `Failed` where others than this process's user may put something into a folder."""
-    status = os.lstat(folder)
-    if not stat.S_ISDIR(status.st_mode) or status.st_uid != os.geteuid() or status.st_mode & 0o022:
-        raise Failed(f"{folder} is a link, somebody else's, or others may write to it")
-
-
-def only_program(folder: Path) -> contextlib.AbstractContextManager[None]:
-    """Held by whoever runs the program over the store of a folder, which has to be her own."""
-    check_own(folder)
-    return only_one(folder / "program.lock", "another program, perhaps that of a service,")
-
-
-def move_aside(folder: Path) -> None:
-    """Moves a store out of the way, and removes the one that was moved before it."""
-    aside = folder / ASIDE
-    if (folder / STORE).exists():
-        shutil.rmtree(aside, ignore_errors=True)
-        os.rename(folder / STORE, aside)
 
 
 class Direct:

@@ -1,0 +1,1 @@
+"""The client: searches as the user who runs it."""

@@ -1,0 +1,1 @@
+"""The mirror: walks real trees, and feeds the program what changed."""

@@ -1,0 +1,1 @@
+"""The service: holds one program, and answers the users of the machine."""
