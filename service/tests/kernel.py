@@ -8,7 +8,7 @@ import json
 import os
 import re
 import sys
-from collections.abc import Iterator
+from collections.abc import Callable, Iterator
 from dataclasses import dataclass
 
 WORD = re.compile(rb"[0-9A-Za-z\x80-\xff]+")
@@ -42,6 +42,16 @@ Seen = dict[bytes, tuple[int, int]]  # device and inode of each file that was op
 
 def opened_by(user: User, paths: list[bytes]) -> Seen:
     """The regular files among the paths that the kernel lets the user open and read."""
+    return _as_user(user, lambda: _opened(paths))
+
+
+def found_by(user: User, top: bytes) -> Seen:
+    """The regular files below a directory that the user finds by its names, and may open."""
+    return _as_user(user, lambda: _opened(paths_below(top)))
+
+
+def _as_user(user: User, opened: Callable[[], Iterator[tuple[bytes, tuple[int, int]]]]) -> Seen:
+    """What a child with the user's ids opens."""
     reading, writing = os.pipe()
     child = os.fork()
     if child == 0:
@@ -50,7 +60,7 @@ def opened_by(user: User, paths: list[bytes]) -> Seen:
             os.close(reading)
             become(user)
             with open(writing, "w", encoding="ascii") as out:
-                json.dump([[path.hex(), *told] for path, told in _opened(paths)], out)
+                json.dump([[path.hex(), *told] for path, told in opened()], out)
             status = 0
         finally:
             os._exit(status)

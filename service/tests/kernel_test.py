@@ -2,7 +2,8 @@
 
 A random tree is changed by real system calls, batch by batch, through restarts and kills of the
 mirror. After each batch thirteen users ask for their paths, and count and find words; each reply
-is compared, byte for byte, with what the kernel lets a child with that user's ids open.
+is compared, byte for byte, with what the kernel lets a child with that user's ids find by its names
+and open; and in a second half, with --unlisted, with what it lets her open by any path.
 """
 
 import os
@@ -14,9 +15,10 @@ import time
 from pathlib import Path
 
 from harness import SERVICE, Pace, Score, folder_of_own, needs_program, needs_root, options
-from kernel import Due, User, opened_by, paths_below
+from kernel import Due, User, found_by, opened_by, paths_below
 from tree import Changes
 
+from wumpus.mirror.access import Access  # isort: skip
 from wumpus.mirror.turn import Mirror, Wish  # isort: skip
 from wumpus.shared.progress import Progress  # isort: skip
 from wumpus.mirror.reach import Direct  # isort: skip
@@ -30,8 +32,11 @@ WORDS = (b"apple", b"budget")
 class Trial:
     """A tree, its users, and a mirror over them."""
 
-    def __init__(self, folder: Path, program: str, draw: random.Random, score: Score) -> None:
+    def __init__(
+        self, folder: Path, program: str, draw: random.Random, score: Score, unlisted: bool
+    ) -> None:
         self.draw = draw
+        self.unlisted = unlisted
         self.score = score
         self.program = program
         self.store = folder / "store"
@@ -45,7 +50,7 @@ class Trial:
         self.mirror = self.begun()
         self.lists = self.mirror.state.lists
         own = list(NUMBERS)
-        self.changes = Changes(self.top, draw, own, GROUPS, self.lists)
+        self.changes = Changes(self.top, draw, own, GROUPS, self.lists, unlisted)
 
     def regroup(self) -> None:
         """Gives all users groups."""
@@ -65,7 +70,7 @@ class Trial:
     def wish(self) -> Wish:
         """The tree with all below it."""
         users = {one.number: tuple(sorted(one.groups)) for one in self.users if one.number}
-        return Wish((self.top,), Limits(), users)
+        return Wish((self.top,), Limits(access=Access(self.unlisted)), users)
 
     def mirror_once(self) -> None:
         """A turn, after which nothing may be shut; one more where something still changed."""
@@ -86,7 +91,7 @@ class Trial:
         command = [
             str(SERVICE / "wumpus-mirror"), "--quiet", "--folder", str(self.store), "--program",
             self.program, "--sockets", "/nonexistent", "--users", str(self.store / "users"),
-            os.fsdecode(self.top),
+            os.fsdecode(self.top), *(["--unlisted"] if self.unlisted else []),
         ]  # fmt: skip
         child = subprocess.Popen(command)
         time.sleep(self.draw.random() * 0.5)
@@ -96,11 +101,36 @@ class Trial:
         self.reach = Direct(self.program, self.store)
         self.mirror = self.begun()
 
+    def one_batch(self, batch: int, calls: int) -> None:
+        """Changes the tree and maybe the groups, sometimes begins anew, mirrors and compares."""
+        self.changes.some(self.draw.randrange(2 * calls))
+        if self.draw.random() < 0.15:
+            self.regroup()
+        if batch % 10 == 4:
+            self.restart()
+        elif batch % 10 == 8:
+            self.kill()
+        self.mirror_once()
+        self.compare()
+
+    def end(self, batches: int) -> None:
+        """Ends the program, and tells what was compared."""
+        if not self.lists:
+            self.unknown_lists()
+        self.reach.abandon()
+        kind = "with" if self.lists else "without"
+        told = " and --unlisted" if self.unlisted else ""
+        print(
+            f"kernel: {self.changes.calls} system calls in {batches} batches, "
+            f"{self.pairs} pairs of path and user, {kind} access lists{told}"
+        )
+
     def compare(self) -> None:
         """Each user's replies beside what the kernel lets her open."""
         paths = paths_below(self.top)
         for user in self.users:
-            due = Due(opened_by(user, paths))
+            seen = opened_by(user, paths) if self.unlisted else found_by(user, self.top)
+            due = Due(seen)
             self.pairs += len(paths)
             self.ask(user, b"paths\t%d\n" % user.number, due.paths())
             for word in WORDS:
@@ -140,29 +170,16 @@ def main() -> int:
     needs_program("kernel", given.program)
     draw = random.Random(given.seed)
     score = Score("kernel")
-    with folder_of_own() as name:
-        trial = Trial(Path(name), given.program, draw, score)
-        trial.changes.some(120)
-        pace = Pace("kernel", given.batches, "batches")
-        for batch in range(given.batches):
-            pace.tell(batch)
-            trial.changes.some(draw.randrange(2 * given.calls))
-            if draw.random() < 0.15:
-                trial.regroup()
-            if batch % 10 == 4:
-                trial.restart()
-            elif batch % 10 == 8:
-                trial.kill()
-            trial.mirror_once()
-            trial.compare()
-        if not trial.lists:
-            trial.unknown_lists()
-        trial.reach.abandon()
-        kind = "with" if trial.lists else "without"
-        print(
-            f"kernel: {trial.changes.calls} system calls in {given.batches} batches, "
-            f"{trial.pairs} pairs of path and user, {kind} access lists"
-        )
+    batches = -(-given.batches // 2)
+    pace = Pace("kernel", 2 * batches, "batches")
+    for unlisted in (False, True):
+        with folder_of_own() as name:
+            trial = Trial(Path(name), given.program, draw, score, unlisted)
+            trial.changes.some(120)
+            for batch in range(batches):
+                pace.tell(batch + batches * unlisted)
+                trial.one_batch(batch, given.calls)
+            trial.end(batches)
     return score.end()
 
 

@@ -12,15 +12,26 @@ WORDS = (b"apple", b"pear", b"Apple", b"budget", b"lunch", b"\xc3\xa9t\xc3\xa9",
 
 
 class Changes:
-    """Makes changes below a folder; each is one or a few system calls, which may fail."""
+    """Makes changes below a folder; each is one or a few system calls, which may fail.
+
+    Where `lone_search` isn't set, no entry of a group in a list gives search without read: a user
+    in two groups may have one of the first and the other of the second.
+    """
 
     def __init__(
-        self, top: bytes, draw: random.Random, users: list[int], groups: list[int], lists: bool
+        self,
+        top: bytes,
+        draw: random.Random,
+        users: list[int],
+        groups: list[int],
+        lists: bool,
+        lone_search: bool = True,
     ) -> None:
         self.top = top
         self.draw = draw
         self.users = users
         self.groups = groups
+        self.lone_search = lone_search
         self.calls = 0
         self.kinds: list[Callable[[], None]] = [
             self.write, self.write, self.write, self.append, self.directory, self.directory,
@@ -181,6 +192,10 @@ class Changes:
             return
         os.setxattr(path, "system.posix_acl_access", self._entries())
 
+    def _group_bits(self) -> int:
+        """The bits of a group's entry: search without read only where that is wanted."""
+        return self.draw.randrange(8) if self.lone_search else self.draw.choice((0, 2, 4, 5, 6, 7))
+
     def _entries(self) -> bytes:
         draw = self.draw
         none = 0xFFFFFFFF
@@ -189,7 +204,7 @@ class Changes:
         groups = draw.choices(self.groups, k=draw.randrange(4))
         entries = [(1, draw.randrange(8), none)]
         entries += [(2, draw.randrange(8), user) for user in users]
-        entries += [(4, draw.randrange(8), none)]
-        entries += [(8, draw.randrange(8), group) for group in groups]
+        entries += [(4, self._group_bits(), none)]
+        entries += [(8, self._group_bits(), group) for group in groups]
         entries += [(16, draw.randrange(8), none), (32, draw.randrange(8), none)]
         return struct.pack("<I", 2) + b"".join(struct.pack("<HHI", *entry) for entry in entries)

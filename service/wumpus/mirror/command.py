@@ -12,6 +12,7 @@ from types import FrameType
 from .. import VERSION
 from ..shared.progress import Progress, plain
 from ..shared.store import CONTROL, FOLDER, SOCKETS, Failed, only_one
+from .access import Access
 from .nodes import Identity, identity_of
 from .reach import Direct, Served, Unanswered
 from .state import BadState
@@ -37,6 +38,7 @@ def parser() -> argparse.ArgumentParser:
     add("--exclude", action="append", default=[], metavar="PATTERN",
         help="leave out names that fit, or with a / paths; may be given again")  # fmt: skip
     add("--one-file-system", action="store_true", help="stay on the file system of each root")
+    add("--unlisted", action="store_true", help="show also what only who knows its name may open")
     add("--users", metavar="FILE", help="a user and her groups a line, in place of the system's")
     add("--served", action="store_true", help="only by a service: never run the program itself")
     add("--every", type=float, metavar="SECONDS", help="go on for ever, a turn so often")
@@ -51,7 +53,7 @@ def wish_of(given: argparse.Namespace, folder: Path) -> Wish:
     """What the options ask for. Raises `BadUsers`, and `OSError`."""
     omitted: frozenset[Identity] = frozenset([identity_of(folder.stat())])
     excludes = tuple(os.fsencode(pattern) for pattern in given.exclude)
-    limits = Limits(excludes, given.one_file_system, omitted)
+    limits = Limits(excludes, given.one_file_system, omitted, Access(given.unlisted))
     users = of_file(Path(given.users)) if given.users else of_system()
     return Wish(tuple(os.fsencode(root) for root in given.roots), limits, users)
 

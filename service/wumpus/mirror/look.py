@@ -12,7 +12,7 @@ from collections.abc import Callable, Iterator
 from dataclasses import dataclass
 
 from ..shared.script import TEXT_MAX
-from .access import BadList, rights_at
+from .access import Access, BadList
 from .nodes import Node, Rights, identity_of
 from .walk import ATTEMPTS
 from .way import DIRECTORY_FLAGS, Found, Patience, Torn, Way
@@ -74,9 +74,10 @@ class Looker:
     A look at the way after a file was read is the one before the next file of its directory.
     """
 
-    def __init__(self, warn: Callable[[str], None]) -> None:
+    def __init__(self, warn: Callable[[str], None], access: Access) -> None:
+        self.access = access
         self.patience = Patience()
-        self.way = Way(self.patience)
+        self.way = Way(self.patience, access)
         self.last: list[int] | None = None  # what the last look at this way saw
         self.warn = warn
 
@@ -138,7 +139,7 @@ class Looker:
                 raise Unstable
             status = os.fstat(descriptor)
             self._check(place.found, status)
-            rights = rights_at(descriptor, status)
+            rights = self.access.of_file(descriptor, status)
             text = self._text(descriptor, status, place.name)
             after = os.fstat(descriptor)
         finally:

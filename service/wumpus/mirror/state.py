@@ -35,7 +35,7 @@ class State:
     """The tree and the users as they are after the batch with this serial.
 
     `lists` tells whether the program knew access lists then; `following` is the number to try
-    first for a new node.
+    first for a new node. `unlisted` tells how the rights of directories were read.
     """
 
     serial: str = ""
@@ -43,6 +43,12 @@ class State:
     users: Groups = field(default_factory=dict)
     following: int = FIRST
     lists: bool = False
+    unlisted: bool = False
+
+    def forget_directories(self) -> None:
+        """Has the rights of each directory read again."""
+        for number in self.tree.entries:
+            self.tree.nodes[number].changed = 0
 
 
 @dataclass(slots=True)
@@ -113,6 +119,7 @@ def spell_state(state: State) -> Iterator[str]:
         "serial": state.serial,
         "following": state.following,
         "lists": state.lists,
+        "unlisted": state.unlisted,
         "users": [[user, *groups] for user, groups in state.users.items()],
         "lines": sum(max(1, -(-len(names) // PIECE)) for names in entries.values()),
     }
@@ -151,7 +158,10 @@ def read_state(path: Path) -> tuple[State, list[Addition]] | None:
             if told["format"] not in READ:
                 raise BadState(f"{path}: another format")
             users = {user: tuple(groups) for user, *groups in told["users"]}
-            state = State(told["serial"], Tree(), users, told["following"], told["lists"])
+            unlisted = told.get("unlisted", True)  # an older state has all as it is
+            state = State(
+                told["serial"], Tree(), users, told["following"], told["lists"], unlisted
+            )
             for _ in range(told["lines" if told["format"] == FORMAT else "directories"]):
                 _read_directory(reader, state.tree, next(lines))
             additions = [_read_addition(reader, line) for line in lines if line.endswith("\n")]

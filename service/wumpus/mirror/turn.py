@@ -277,11 +277,13 @@ class Mirror:
 
     def turn(self, wish: Wish) -> Report:
         """Walks, looks and feeds until the program's tree is what was found."""
+        if self.state.unlisted != wish.limits.access.unlisted:
+            self.state.forget_directories()
         turn = Turn(wish, self.state, self.progress, self.folder)
         self.progress.next_turn()
         walk = turn.walk()
         tree = turn.target(walk)
-        looker = Looker(self.progress.warn)
+        looker = Looker(self.progress.warn, wish.limits.access)
         places = places_of(walk.top)
         try:
             more = self._first(turn, tree, looker, places)
@@ -300,7 +302,8 @@ class Mirror:
             more = turn.look(tree, looker, places, texts)
             users = turn.wish.users
             plan = plan_all(old.tree, tree, old.users, users)
-            new = State(old.serial, tree, users, old.following, old.lists)
+            unlisted = turn.wish.limits.access.unlisted
+            new = State(old.serial, tree, users, old.following, old.lists, unlisted)
             if not plan.is_empty() or texts.count or not old.serial:
                 new.serial = new_serial(old.serial)
                 self.files.prepare(new)
@@ -350,7 +353,7 @@ def dry_run(mirror: Mirror, wish: Wish, out: BinaryIO) -> Report:
     turn = Turn(wish, mirror.state, mirror.progress, mirror.folder)
     walk = turn.walk()
     tree = turn.target(walk)
-    looker = Looker(mirror.progress.warn)
+    looker = Looker(mirror.progress.warn, wish.limits.access)
     texts = Texts(mirror.folder)
     try:
         places = places_of(walk.top)

@@ -16,7 +16,7 @@ from collections.abc import Callable
 from dataclasses import dataclass
 
 from ..shared.script import DEPTH_MAX, NAME_MAX
-from .access import BadList, rights_at
+from .access import Access, BadList
 from .mounts import file_systems_left_out
 from .nodes import Identity, Node, Rights, Tree, device_of, identity_of
 from .way import DIRECTORY_FLAGS, NO_ENTRIES, Found, Patience, Seen, Step, Torn, Way
@@ -36,6 +36,7 @@ class Limits:
     excludes: tuple[bytes, ...] = ()
     one_file_system: bool = False
     omitted: frozenset[Identity] = frozenset()
+    access: Access = Access()
 
 
 def pattern_of(patterns: tuple[bytes, ...]) -> Callable[[bytes, bytes], bool]:
@@ -86,7 +87,7 @@ class Walk:
         self.fits = pattern_of(limits.excludes)
         self.left_out = file_systems_left_out()
         self.found: dict[Identity, Seen] = {}
-        self.way = Way(patience)
+        self.way = Way(patience, limits.access)
         self.torn = False
         self.seen = 0
         self.device: int | None = None
@@ -143,14 +144,15 @@ class Walk:
         status = os.fstat(descriptor)
         identity = identity_of(status)
         known = self.known.get(identity)
-        plain = (status.st_mode & 0o7777, status.st_uid, status.st_gid)
+        mode = self.limits.access.mode_of_directory(status)
+        plain = (mode, status.st_uid, status.st_gid)
         if known is not None and not known.is_directory:
             known = None
         if known is not None and known.changed == status.st_ctime_ns and known.rights[:3] == plain:
             rights = known.rights
         else:
             try:
-                rights = rights_at(descriptor, status)
+                rights = self.limits.access.of_directory(descriptor, status)
             except (BadList, OSError) as error:
                 self.warn(f"an access list that can't be read: {error}")
                 rights, torn = Rights(0, status.st_uid, status.st_gid), True

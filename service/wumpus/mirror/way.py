@@ -8,7 +8,7 @@ import os
 import time
 from dataclasses import dataclass, field
 
-from .access import BadList, rights_at
+from .access import Access, BadList
 from .nodes import Identity, Node, Rights, identity_of
 
 YOUNG = 50_000_000  # nanoseconds in which two changes may have one ctime
@@ -99,9 +99,10 @@ class Patience:
 class Way:
     """The directories from `/` to the one that is read, each held open."""
 
-    def __init__(self, patience: Patience) -> None:
+    def __init__(self, patience: Patience, access: Access) -> None:
         self.steps: list[Step] = []
         self.patience = patience
+        self.access = access
 
     def look(self) -> list[int]:
         """The ctimes of all directories on the way, by name from above.
@@ -137,7 +138,7 @@ class Way:
     def _compare(self, step: Step, status: os.stat_result) -> None:
         """Accepts a directory whose ctime is another one where its rights are the same."""
         try:
-            rights = rights_at(step.descriptor, status)
+            rights = self.access.of_directory(step.descriptor, status)
         except (BadList, OSError):
             rights = None
         if rights is None or rights != step.found.rights:
