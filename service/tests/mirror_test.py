@@ -172,6 +172,9 @@ def other_systems(place: Place, score: Score) -> None:
     mounted, twice, odd = (place.tree / name for name in ("mounted", "twice", "od d"))
     for one in (mounted, twice, odd):
         one.mkdir()
+    over, under = place.tree / "over", place.tree / "under"
+    for one in (over, under):
+        one.write_text("hidden\n")
     if subprocess.run(["mount", "-t", "tmpfs", "none", str(mounted)]).returncode != 0:
         print("mirror: no mounts here, one part is skipped")
         return
@@ -179,18 +182,25 @@ def other_systems(place: Place, score: Score) -> None:
         subprocess.run(["mount", "--bind", str(place.tree / "keep"), str(twice)], check=True)
         subprocess.run(["mount", "-t", "proc", "none", str(odd)], check=True)
         (mounted / "m").write_text("m\n")
-        place.mirror("--one-file-system")
-        score.check("mounted/m" not in place.paths(), "one file system only")
+        subprocess.run(["mount", "--bind", str(mounted / "m"), str(over)], check=True)
+        subprocess.run(["mount", "--bind", str(odd / "version"), str(under)], check=True)
+        told = place.mirror("--one-file-system")[2]
+        paths = place.paths()
+        score.check(not {"mounted/m", "over", "under"} & set(paths), "one file system only")
+        score.check(f"{mounted}: a file system that is left out (tmpfs)" in told, f"told: {told}")
         told = place.mirror()[2]
+        score.check("over" in place.paths(), "a file of another system at a file's place")
+        score.check("under" not in place.paths(), "one of the kernel's own")
+        score.check(f"{under}: a file system that is left out (proc)" in told, f"a file: {told}")
         paths = place.paths()
         score.check("mounted/m" in paths, "all file systems")
-        score.check(f"{odd}: a file system that is left out" in told, f"the kernel's own: {told}")
+        score.check(f"{odd}: a file system that is left out (proc)" in told, f"the kernel's own: {told}")
         score.check(not any(one.startswith("od d") for one in paths), "its files")
         found = [path for path in paths if path.endswith("/x")]
         score.check(len(found) == 1, f"a directory in two places: {found}")
         long_list(place, score, mounted)
     finally:
-        for one in (mounted, twice, odd):
+        for one in (over, under, mounted, twice, odd):
             subprocess.run(["umount", str(one)], stderr=subprocess.DEVNULL)
 
 

@@ -116,10 +116,9 @@ def of_disk(folder: Path, program: str, score: Score) -> None:
 
 def of_lines(score: Score) -> None:
     """Names of mounts with other white space, and warnings of many names."""
-    line = b"1 2 0:77 / /home/eve/a\r-\rext4 rw - fuse.x x rw\n"
-    with mock.patch("builtins.open", lambda *_, **__: io.BytesIO(line)):
-        found = mounts.file_systems_left_out()
-    score.check(found.places == {b"/home/eve/a\r-\rext4"}, f"a mount: {found}")
+    line = b"1 2 0:77 / /home/eve/a\\040\r-\rext4 rw - fuse.x x rw\n"
+    found = mounts.mount_of(line)
+    score.check(found == (1, mounts.Mount("fuse.x", b"/home/eve/a \r-\rext4")), f"a mount: {found}")
     progress = Progress("test", False)
     with redirect_stderr(io.StringIO()) as told:
         for turn in range(3):

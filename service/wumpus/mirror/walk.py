@@ -17,11 +17,12 @@ from dataclasses import dataclass
 
 from ..shared.script import DEPTH_MAX, NAME_MAX
 from .access import Access, BadList
-from .mounts import file_systems_left_out
+from .mounts import Mounts
 from .nodes import Identity, Node, Rights, Tree, device_of, identity_of
 from .way import DIRECTORY_FLAGS, NO_ENTRIES, Found, Patience, Seen, Step, Torn, Way
 
 ATTEMPTS = 5
+PLACE_FLAGS = os.O_PATH | os.O_NOFOLLOW | os.O_CLOEXEC
 DEEPEST = DEPTH_MAX - 1  # a directory that moves passes through one at depth 2
 
 
@@ -85,7 +86,8 @@ class Walk:
         self.warn = warn
         self.tick = tick
         self.fits = pattern_of(limits.excludes)
-        self.left_out = file_systems_left_out()
+        self.mounts = Mounts()
+        self.good: set[int] = set()  # devices of file systems that are walked
         self.found: dict[Identity, Seen] = {}
         self.way = Way(patience, limits.access)
         self.torn = False
@@ -100,6 +102,7 @@ class Walk:
         """Closes all that is open."""
         while self.way.steps:
             self.way.leave()
+        self.mounts.close()
 
     def root(self, path: bytes) -> None:
         """Walks what is below a root, an absolute path of a directory.
@@ -177,6 +180,7 @@ class Walk:
         """Reads the names of a directory in a window, and gives those of directories."""
         kept = dict(here.found.entries)  # names that lead to other roots
         count = len(self.found)
+        self.mounts.refresh()
         directories: list[bytes] = []
         for _ in range(ATTEMPTS):
             began = time.monotonic()
@@ -189,7 +193,7 @@ class Walk:
             except OSError as error:
                 self.warn(f"{os.fsdecode(path) or '/'}: {error.strerror}")
                 return []
-            for name in kept.keys() - set(directories):
+            for name in kept.keys() - set(directories) - self.mounts.left_out_in(path).keys():
                 here.found.entries.pop(name, None)
             if self.way.look() == before:
                 return directories
@@ -207,12 +211,16 @@ class Walk:
         names = self.old.entries.get(known.number, {}) if known is not None else {}
         kept = {name: name for name in names}  # a name that was known isn't kept twice
         patterned = bool(self.limits.excludes)
+        left_out = self.mounts.left_out_in(path)
+        device = device_of(here.found.identity)
         with os.scandir(here.descriptor) as listing:
             for entry in listing:
                 name = os.fsencode(entry.name)
                 name = kept.get(name, name)
                 if patterned and self.fits(name, path + b"/" + name):
                     entries.pop(name, None)
+                elif name in left_out:
+                    self._tell_of_system(path + b"/" + name, left_out[name])
                 elif len(name) > NAME_MAX:
                     self.warn(f"{os.fsdecode(path)}: a name over 255 bytes is left out")
                 elif entry.is_dir(follow_symlinks=False):
@@ -222,7 +230,11 @@ class Walk:
                         status = entry.stat(follow_symlinks=False)
                     except FileNotFoundError:
                         continue
-                    if stat.S_ISREG(status.st_mode):
+                    if not stat.S_ISREG(status.st_mode):
+                        continue
+                    if status.st_dev == device or self._is_walked(
+                        here, name, path + b"/" + name, status
+                    ):
                         entries[name] = self._file(status)
         return directories
 
@@ -260,17 +272,14 @@ class Walk:
         if len(self.way.steps) >= DEEPEST:
             self.warn(f"{os.fsdecode(path[:200])}..: too deep, it is left out")
             return
-        if path in self.left_out.places:
-            here.found.entries.pop(name, None)
-            self.warn(f"{os.fsdecode(path)}: a file system that is left out")
-            return
         try:
             descriptor = os.open(name, DIRECTORY_FLAGS, dir_fd=here.descriptor)
         except OSError as error:
             self.warn(f"{os.fsdecode(path)}: {error.strerror}")
             return
-        identity = identity_of(os.fstat(descriptor))
-        if identity in self.limits.omitted or self._is_elsewhere(identity, path):
+        status = os.fstat(descriptor)
+        identity = identity_of(status)
+        if identity in self.limits.omitted or not self._is_walked(here, name, path, status):
             os.close(descriptor)
             here.found.entries.pop(name, None)
             return
@@ -292,14 +301,30 @@ class Walk:
         finally:
             self.way.leave()
 
-    def _is_elsewhere(self, identity: Identity, path: bytes) -> bool:
-        """Whether a directory is on a file system that is left out."""
-        device = device_of(identity)
-        if device == self.device:
+    def _is_walked(self, here: Step, name: bytes, path: bytes, status: os.stat_result) -> bool:
+        """Whether what has the name in a directory is on a file system that is walked.
+
+        `path` is its own. Where it isn't, that is told.
+        """
+        if status.st_dev == self.device:
+            return True
+        if not self.limits.one_file_system and status.st_dev in self.good:
+            return True
+        try:
+            descriptor = os.open(name, PLACE_FLAGS, dir_fd=here.descriptor)
+        except OSError as error:
+            self.warn(f"{os.fsdecode(path)}: {error.strerror}")
             return False
-        if self.limits.one_file_system:
+        try:
+            mount = self.mounts.of(descriptor)
+        finally:
+            os.close(descriptor)
+        if mount is not None and mount.is_good and not self.limits.one_file_system:
+            self.good.add(status.st_dev)
             return True
-        if device in self.left_out.devices:
-            self.warn(f"{os.fsdecode(path)}: a file system that is left out")
-            return True
+        self._tell_of_system(path, mount.kind if mount is not None else "unknown")
         return False
+
+    def _tell_of_system(self, path: bytes, kind: str) -> None:
+        """Warns of the boundary of a file system that is left out."""
+        self.warn(f"{os.fsdecode(path)}: a file system that is left out ({kind})")
