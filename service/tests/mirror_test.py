@@ -7,9 +7,15 @@ import shutil
 import struct
 import subprocess
 import sys
+import time
+from collections.abc import Callable
 from pathlib import Path
 
 from harness import SERVICE, Score, folder_of_own, needs_program, options
+
+DAEMON = 1  # an account that each system has
+WITHOUT_ACCOUNT = 987
+READ_ALL = 1 << 2  # CAP_DAC_READ_SEARCH
 
 
 class Place:
@@ -227,6 +233,49 @@ def long_list(place: Place, score: Score, folder: Path) -> None:
         score.check(reply == [b"count\t" + count], f"user {user}, long lists: {reply}")
 
 
+def owner(folder: Path, program: str, score: Score) -> None:
+    """Started by root, the mirror becomes the owner of its folder, and keeps one capability."""
+    folder.mkdir(mode=0o755)
+    place = Place(folder, program)
+    secret = place.tree / "secret"
+    secret.write_text("quince\n")
+    secret.chmod(0o600)
+    os.chown(place.store, DAEMON, DAEMON)
+    child = subprocess.Popen(place.words("--every", "60", "--quiet"))
+    try:
+        written = place.store / "mirror.state"
+        wait_for(written.exists)
+        status = Path(f"/proc/{child.pid}/status").read_text()
+        due = {"Uid": str(DAEMON), "CapEff": f"{READ_ALL:016x}", "CapBnd": f"{READ_ALL:016x}"}
+        for name, value in due.items():
+            found = re.search(rf"^{name}:\t(\S+)", status, re.MULTILINE)
+            score.check(found is not None and found[1] == value, f"{name} of a mirror: {found}")
+        owners = {one.name: one.stat().st_uid for one in place.store.iterdir()}
+        score.check(set(owners.values()) == {DAEMON}, f"whose its files are: {owners}")
+    finally:
+        child.terminate()
+        child.wait(60)
+    told = subprocess.run(
+        [program, "run"], input=b'count\t0\t"quince"\n', capture_output=True, cwd=place.store,
+        user=DAEMON, group=DAEMON,
+    )  # fmt: skip
+    score.check(told.stdout == b"count\t1\t1\n", f"it reads each file: {told}")
+    os.chown(place.store, WITHOUT_ACCOUNT, DAEMON)
+    ended, _, why = place.mirror()
+    score.check(ended == 2 and "no account" in why, f"an owner without an account: {why}")
+    os.chown(place.store, DAEMON, DAEMON)
+    place.store.chmod(0o722)
+    ended, _, why = place.mirror()
+    score.check(ended == 2 and "others may write" in why, f"a folder of everybody: {why}")
+
+
+def wait_for(holds: Callable[[], bool], seconds: float = 60.0) -> None:
+    """Waits until something holds."""
+    until = time.monotonic() + seconds
+    while not holds() and time.monotonic() < until:
+        time.sleep(0.02)
+
+
 def main() -> int:
     """Runs the test."""
     given = options(__doc__ or "").parse_args()
@@ -240,6 +289,7 @@ def main() -> int:
         losses(place, score)
         if os.geteuid() == 0:
             other_systems(place, score)
+            owner(Path(name) / "owner", given.program, score)
     return score.end()
 
 

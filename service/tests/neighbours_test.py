@@ -26,7 +26,8 @@ from service_test import (
     wait_for,
 )
 
-from wumpus.mirror import mounts  # isort: skip
+from wumpus.mirror import mounts, users  # isort: skip
+from wumpus.mirror.plan import Groups  # isort: skip
 from wumpus.mirror.turn import Mirror, Turn, Wish  # isort: skip
 from wumpus.shared.progress import Progress  # isort: skip
 from wumpus.mirror.reach import Direct  # isort: skip
@@ -84,9 +85,9 @@ def of_mirror(place: Place, score: Score) -> None:
     status, _, told_of = place.mirror(str(place.tree / "gone"))
     score.check(status == 2 and "gone" in told_of, f"a root that is gone: {told_of}")
     score.check("late" in place.paths(), "the other root is mirrored")
-    os.chown(place.store, 990, 990)
+    os.chown(place.store, 1990, 1990)
     status, _, told_of = place.mirror()
-    score.check(status == 2 and "somebody else's" in told_of, f"another's folder: {told_of}")
+    score.check(status == 2 and "no system account" in told_of, f"another's folder: {told_of}")
     os.chown(place.store, 0, 0)
 
 
@@ -126,6 +127,28 @@ def of_lines(score: Score) -> None:
             for number in range(3000):
                 progress.warn(f"{turn} {number}")
     score.check(told.getvalue().count("\n") < 4000 and len(progress.warned) < 2000, "warnings")
+
+
+def slow_names(score: Score) -> None:
+    """A name service that doesn't answer holds nothing up, and its users stay as they were."""
+    answers = threading.Event()
+
+    def ask() -> Groups:
+        answers.wait(60)
+        return {1001: (2000,)}
+
+    with mock.patch.object(users, "of_system", lambda: {1001: (1001,)}):
+        known = users.SystemUsers(lambda _: None)
+    with (
+        mock.patch.object(users, "of_system", ask),
+        mock.patch.object(users.SystemUsers, "EVERY", 0.0),
+    ):
+        began = time.monotonic()
+        score.check(known.latest() == {1001: (1001,)}, "users that were told before")
+        score.check(time.monotonic() - began < 5, "a name service isn't waited for")
+        answers.set()
+        wait_for(lambda: known.found == {1001: (2000,)})
+    score.check(known.found == {1001: (2000,)}, "users that it told at last")
 
 
 def hold(sockets: Path, user: int, seconds: float) -> int:
@@ -190,6 +213,7 @@ def of_service(served: Served, score: Score) -> None:
     os.seteuid(1001)
     try:
         listening.bind(str(served.sockets / "control"))
+        os.chmod(served.sockets / "control", 0o666)
         listening.listen(1)
     finally:
         os.seteuid(0)
@@ -225,6 +249,7 @@ def main() -> int:
         folder = Path(name)
         still(folder, score)
         of_lines(score)
+        slow_names(score)
         of_disk(folder, given.program, score)
         for one in ("mirror", "service"):
             (folder / one).mkdir()

@@ -8,7 +8,16 @@ from pathlib import Path
 from harness import Score, folder_of_own, options
 
 from wumpus.mirror.nodes import FIRST, ROOT, Node, Rights, Tree, first_tree  # isort: skip
-from wumpus.mirror.state import FORMAT, PIECE, Addition, Files, State, read_state, spell_state  # isort: skip
+from wumpus.mirror.state import (  # isort: skip
+    FORMAT,
+    PIECE,
+    Addition,
+    BadState,
+    Files,
+    State,
+    read_state,
+    spell_state,
+)
 
 SIZES = (0, 1, PIECE - 1, PIECE, PIECE + 1, 3 * PIECE + 5)
 
@@ -87,6 +96,31 @@ def older(folder: Path, score: Score) -> None:
     score.check(FORMAT == 2, "the format of new states")
 
 
+def links(folder: Path, score: Score) -> None:
+    """Links and others' files in the place of a state: nothing is written or read through them."""
+    files = Files(folder)
+    elsewhere = folder / "elsewhere"
+    elsewhere.write_text("kept\n")
+    files.next.symlink_to(elsewhere)
+    files.prepare(State("1-a", tree_of(3), {}, FIRST, False))
+    score.check(elsewhere.read_text() == "kept\n", "a link in the place of a state to be written")
+    score.check(not files.next.is_symlink(), "the state stands in its place")
+    files.commit()
+    os.rename(files.path, elsewhere)
+    files.path.symlink_to(elsewhere)
+    for path, what in ((files.path, "a link"), (folder, "a directory")):
+        try:
+            read_state(path)
+            score.check(False, f"{what} in the place of a state is read")
+        except BadState:
+            score.check(True, "")
+    try:
+        files.add(Addition("2-b", []))
+        score.check(False, "a link is written through")
+    except OSError:
+        score.check("2-b" not in elsewhere.read_text(), "a link is written through")
+
+
 def main() -> int:
     """Runs the test."""
     options(__doc__ or "").parse_args()
@@ -97,6 +131,7 @@ def main() -> int:
             os.mkdir(folder)
             written_and_read(folder, size, score)
         older(Path(name), score)
+        links(Path(name), score)
     return score.end()
 
 

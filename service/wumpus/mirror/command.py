@@ -6,18 +6,21 @@ import os
 import signal
 import sys
 import time
+from collections.abc import Callable
 from pathlib import Path
 from types import FrameType
 
 from .. import VERSION
+from ..shared.privileges import become_owner_of
 from ..shared.progress import Progress, plain
-from ..shared.store import CONTROL, FOLDER, SOCKETS, Failed, only_one
+from ..shared.store import CONTROL, FOLDER, SOCKETS, Failed, check_own, only_one
 from .access import Access
 from .nodes import Identity, identity_of
+from .plan import Groups
 from .reach import Direct, Served, Unanswered
 from .state import BadState
 from .turn import Mirror, Report, Wish, dry_run
-from .users import BadUsers, of_file, of_system
+from .users import BadUsers, SystemUsers, of_file
 from .walk import BadRoot, Limits
 
 SOON = 2.0  # seconds after which a service that wasn't there is looked for again
@@ -49,12 +52,23 @@ def parser() -> argparse.ArgumentParser:
     return options
 
 
-def wish_of(given: argparse.Namespace, folder: Path) -> Wish:
-    """What the options ask for. Raises `BadUsers`, and `OSError`."""
+def users_of(
+    given: argparse.Namespace, reach: Direct | Served, warn: Callable[[str], None]
+) -> Callable[[], Groups]:
+    """Gives the users for each turn. Raises `BadUsers`, and `OSError`, then and later.
+
+    A service tells the program the groups of each asker itself, so none are needed.
+    """
+    if given.users:
+        return lambda: of_file(Path(given.users))
+    return (lambda: {}) if isinstance(reach, Served) else SystemUsers(warn).latest
+
+
+def wish_of(given: argparse.Namespace, folder: Path, users: Groups) -> Wish:
+    """What the options ask for. Raises `OSError`."""
     omitted: frozenset[Identity] = frozenset([identity_of(folder.stat())])
     excludes = tuple(os.fsencode(pattern) for pattern in given.exclude)
     limits = Limits(excludes, given.one_file_system, omitted, Access(given.unlisted))
-    users = of_file(Path(given.users)) if given.users else of_system()
     return Wish(tuple(os.fsencode(root) for root in given.roots), limits, users)
 
 
@@ -73,6 +87,7 @@ def reach_of(given: argparse.Namespace, folder: Path) -> Direct | Served:
 
 def one_session(given: argparse.Namespace, folder: Path, progress: Progress) -> None:
     """Turns over one reach of the program, as many as are wanted or until something fails."""
+    check_own(folder)
     with only_one(folder / "mirror.lock", "another mirror"):
         turns(given, folder, progress)
 
@@ -82,12 +97,13 @@ def turns(given: argparse.Namespace, folder: Path, progress: Progress) -> None:
     reach = reach_of(given, folder)
     whole = is_told = False
     try:
+        users = users_of(given, reach, progress.warn)
         mirror = Mirror(reach, folder, progress)
         mirror.begin(given.anew, given.dry_run)
         given.anew = False
         while True:
             began = time.monotonic()
-            wish = wish_of(given, folder)
+            wish = wish_of(given, folder, users())
             if given.dry_run:
                 report(dry_run(mirror, wish, sys.stdout.buffer), began, given.quiet)
                 return
@@ -142,6 +158,11 @@ def main() -> int:
     folder = Path(given.folder)
     progress = Progress("wumpus-mirror", given.quiet)
     signal.signal(signal.SIGTERM, end)
+    try:
+        become_owner_of(folder)
+    except (Failed, OSError) as error:
+        print(f"wumpus-mirror: {plain(str(error))}", file=sys.stderr)
+        return 2
     while True:
         try:
             one_session(given, folder, progress)

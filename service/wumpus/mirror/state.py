@@ -7,9 +7,11 @@ in `mirror.next` first. Both are written before their batch is fed: which of the
 program tells, since each batch has a serial of its own, the name of a directory in the closed one.
 """
 
+import errno
 import json
 import os
 import secrets
+import stat
 from collections.abc import Iterable, Iterator
 from dataclasses import dataclass, field
 from itertools import islice
@@ -57,6 +59,21 @@ class Addition:
 
     serial: str
     nodes: list[Node]
+
+
+def opened(path: Path) -> int:
+    """A descriptor of a file of the state. Raises `BadState` where it is a link, or others' file."""
+    try:
+        descriptor = os.open(path, os.O_RDONLY | os.O_NOFOLLOW | os.O_NONBLOCK | os.O_CLOEXEC)
+    except OSError as error:
+        if error.errno == errno.ELOOP:
+            raise BadState(f"{path}: it is a symbolic link") from error
+        raise
+    status = os.fstat(descriptor)
+    if not stat.S_ISREG(status.st_mode) or status.st_uid not in (0, os.geteuid()):
+        os.close(descriptor)
+        raise BadState(f"{path}: it is somebody else's, or no file")
+    return descriptor
 
 
 def new_serial(before: str) -> str:
@@ -134,7 +151,7 @@ def spell_state(state: State) -> Iterator[str]:
             new = [child for child in dict.fromkeys(fresh) if not nodes[child].is_directory]
             told.update(new)
             files = [_spell_node(nodes[child]) for child in new]
-            spelled = [os.fsdecode(name) for name, _ in piece]
+            spelled = [name.decode("utf-8", "surrogateescape") for name, _ in piece]
             line = [directory, spelled, children, files]
             yield json.dumps(line, separators=(",", ":")) + "\n"
 
@@ -153,7 +170,7 @@ def read_state(path: Path) -> tuple[State, list[Addition]] | None:
     """
     reader = _Reader()
     try:
-        with open(path, encoding="utf-8") as lines:
+        with open(opened(path), encoding="utf-8") as lines:
             told = json.loads(next(lines))
             if told["format"] not in READ:
                 raise BadState(f"{path}: another format")
@@ -183,7 +200,8 @@ def _read_directory(reader: _Reader, tree: Tree, line: str) -> None:
         numbers[told.number] = told.number
     children = [numbers.get(child, child) for child in children]
     entries = tree.entries.setdefault(directory.number, {})
-    entries.update(zip(map(os.fsencode, names), children))
+    spelled = (name.encode("utf-8", "surrogateescape") for name in names)
+    entries.update(zip(spelled, children))
 
 
 def _read_addition(reader: _Reader, line: str) -> Addition:
@@ -216,8 +234,9 @@ class Files:
         self.next = folder / NEXT
 
     def prepare(self, state: State) -> None:
-        """Writes a whole state that is about to be fed."""
-        self._write(self.next, spell_state(state), os.O_TRUNC)
+        """Writes a whole state that is about to be fed, to a file that nobody else has open."""
+        self.drop()
+        self._write(self.next, spell_state(state), os.O_CREAT | os.O_EXCL)
         sync_folder(self.folder)
 
     def commit(self) -> None:
@@ -235,7 +254,7 @@ class Files:
 
     def is_whole(self) -> bool:
         """Whether the last line of the state wasn't cut off."""
-        with open(self.path, "rb") as file:
+        with open(opened(self.path), "rb") as file:
             file.seek(-1, os.SEEK_END)
             return file.read(1) == b"\n"
 
@@ -246,7 +265,8 @@ class Files:
 
     @staticmethod
     def _write(path: Path, lines: Iterable[str], flag: int) -> None:
-        descriptor = os.open(path, os.O_WRONLY | os.O_CREAT | os.O_CLOEXEC | flag, 0o600)
+        flags = os.O_WRONLY | os.O_NOFOLLOW | os.O_CLOEXEC | flag
+        descriptor = os.open(path, flags, 0o600)
         with open(descriptor, "w", encoding="utf-8") as out:
             out.writelines(lines)
             out.flush()

@@ -6,6 +6,9 @@ it. A number that has several names has the groups that all of them have.
 
 import os
 import pwd
+import threading
+import time
+from collections.abc import Callable
 from pathlib import Path
 
 from ..shared.script import NUMBER_MAX, spell_user
@@ -33,6 +36,37 @@ def _checked(users: Groups) -> Groups:
         if spell_user(user, groups) is None:
             raise BadUsers(f"user {user} is in more groups than a line can tell")
     return users
+
+
+class SystemUsers:
+    """The users that the system lists, asked again now and then beside what else is done.
+
+    A name service that is slow, or doesn't answer, holds nothing up: until it has answered the users
+    are those that it told before. Raises `BadUsers` at the first time.
+    """
+
+    EVERY = 600.0  # seconds
+
+    def __init__(self, warn: Callable[[str], None]) -> None:
+        self.warn = warn
+        self.found = of_system()
+        self.asked = time.monotonic()
+        self.asking: threading.Thread | None = None
+
+    def latest(self) -> Groups:
+        """What was told last; asks again where that is long ago."""
+        is_asking = self.asking is not None and self.asking.is_alive()
+        if not is_asking and time.monotonic() - self.asked > self.EVERY:
+            self.asking = threading.Thread(target=self._ask, daemon=True)
+            self.asking.start()
+        return self.found
+
+    def _ask(self) -> None:
+        try:
+            self.found = of_system()
+        except (BadUsers, OSError) as error:
+            self.warn(f"users are as they were told before: {error}")
+        self.asked = time.monotonic()
 
 
 def of_file(path: Path) -> Groups:
