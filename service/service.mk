@@ -41,6 +41,8 @@ install-service:
 	done
 	test -e $(DESTDIR)$(SYSCONFDIR)/default/wumpus || \
 		install -m 644 service/systemd/default $(DESTDIR)$(SYSCONFDIR)/default/wumpus
+	test -e $(DESTDIR)$(SYSCONFDIR)/wumpus/excludes || \
+		install -D -m 644 service/systemd/excludes $(DESTDIR)$(SYSCONFDIR)/wumpus/excludes
 
 # As root; without it, the tests that take on the ids of users say that they are skipped.
 service-test:
@@ -78,7 +80,7 @@ package:
 	cp README.md docs/*.md out/deb/usr/share/doc/wumpus
 	sed -e 's/@VERSION@/$(VERSION)/' -e 's/@ARCH@/$(DEB_ARCH)/' service/debian/control \
 		>out/deb/DEBIAN/control
-	echo /etc/default/wumpus >out/deb/DEBIAN/conffiles
+	printf '%s\n' /etc/default/wumpus /etc/wumpus/excludes >out/deb/DEBIAN/conffiles
 	install -m 755 service/debian/postinst service/debian/prerm service/debian/postrm \
 		out/deb/DEBIAN
 	chmod -R u=rwX,go=rX out/deb

@@ -26,7 +26,7 @@ _wumpus() {
 }
 
 _wumpus_mirror() {
-    _wumpus_options "--folder --program --sockets --exclude --one-file-system --unlisted --users --served --every
+    _wumpus_options "--folder --program --sockets --exclude --exclude-from --one-file-system --unlisted --users --served --every
         --anew --dry-run --quiet --version --help" d
 }
 

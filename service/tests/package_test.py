@@ -18,8 +18,8 @@ from service_test import wait_for
 
 LEFT = (
     "usr/bin/wumpus", "usr/bin/wumpus-ask", "usr/sbin/wumpusd", "usr/share/wumpus",
-    "etc/default/wumpus", "var/lib/wumpus", "lib/systemd/system/wumpusd.service",
-    "usr/share/doc/wumpus",
+    "etc/default/wumpus", "etc/wumpus/excludes", "var/lib/wumpus", "var/lib/wumpus-mirror",
+    "lib/systemd/system/wumpusd.service", "usr/share/doc/wumpus",
 )  # fmt: skip
 
 
@@ -38,12 +38,13 @@ class Root:
         """Starts a command in it."""
         return subprocess.Popen(["chroot", str(self.folder), *words])
 
-    def service(self, *words: str, capability: str = "") -> subprocess.Popen[bytes]:
-        """Starts a program as the service's user, with one capability at most."""
+    def service(self, user: str, *words: str, capability: str = "") -> subprocess.Popen[bytes]:
+        """Starts a program as a unit's user, with one capability at most."""
         limits = [f"--bounding-set=-all{',+' + capability if capability else ''}"]
         if capability:
             limits += [f"--inh-caps=-all,+{capability}", f"--ambient-caps=-all,+{capability}"]
-        as_user = ["setpriv", "--reuid=wumpus", "--regid=wumpus", "--clear-groups", *limits]
+        as_user = ["setpriv", f"--reuid={user}", f"--regid={user}", *limits]
+        as_user += ["--groups=_wumpus-mirror"] if user == "_wumpus" else ["--clear-groups"]
         return self.start(*as_user, "--no-new-privs", *words)
 
     def ask(self, user: str, *words: str) -> tuple[int, str]:
@@ -57,9 +58,11 @@ def installed(root: Root, package: Path, score: Score) -> None:
     shutil.copy(package, root.folder / "wumpus.deb")
     status, told = root.run("dpkg", "-i", "/wumpus.deb")
     score.check(status == 0, f"dpkg -i: {told}")
-    score.check(root.run("id", "wumpus")[0] == 0, "the user of the service")
-    mode = (root.folder / "var/lib/wumpus").stat().st_mode & 0o7777
-    score.check(mode == 0o700, f"the mode of its folder: {mode:o}")
+    for user, folder in (("_wumpus", "wumpus"), ("_wumpus-mirror", "wumpus-mirror")):
+        score.check(root.run("id", user)[0] == 0, f"the account {user}")
+        mode = (root.folder / "var/lib" / folder).stat().st_mode & 0o7777
+        score.check(mode == 0o700, f"the mode of its folder: {mode:o}")
+    score.check("nothing is searched before" in told, f"what is to be done next: {told}")
     for program in ("wumpus-mirror", "wumpusd", "wumpus-ask", "wumpus-lint"):
         status, told = root.run(program, "--version")
         score.check(status == 0 and program in told, f"{program} --version: {told}")
@@ -73,11 +76,15 @@ def used(root: Root, score: Score) -> None:
         (root.folder / f"home/{user}/diary").write_text(f"budget of {user}\n")
         root.run("chown", f"{user}:{user}", f"/home/{user}/diary")
         root.run("chmod", "600", f"/home/{user}/diary")
-    root.run("install", "-d", "-o", "wumpus", "-m", "755", "/run/wumpus")
-    service = root.service("wumpusd", "--program", "/usr/bin/wumpus")
+        (root.folder / f"home/{user}/.ssh").mkdir()
+        (root.folder / f"home/{user}/.ssh/note").write_text("budget of keys\n")
+    root.run("install", "-d", "-o", "_wumpus", "-m", "755", "/run/wumpus")
+    words = ("--program", "/usr/bin/wumpus", "--mirror-user", "_wumpus-mirror")
+    service = root.service("_wumpus", "wumpusd", *words)
     wait_for((root.folder / "run/wumpus/control").exists)
     mirror = root.service(
-        "wumpus-mirror", "--served", "--quiet", "--one-file-system", "/home",
+        "_wumpus-mirror", "wumpus-mirror", "--served", "--quiet", "--folder",
+        "/var/lib/wumpus-mirror", "--exclude-from", "/etc/wumpus/excludes", "/home",
         capability="dac_read_search",
     )  # fmt: skip
     score.check(mirror.wait() == 0, "a turn of the mirror")
@@ -86,6 +93,7 @@ def used(root: Root, score: Score) -> None:
         due = f"/home/{user}/diary\n  1: budget of {user}\n"
         score.check((status, told) == (0, due), f"{user}: {told}")
     score.check(root.ask("bob", "-c", "ann")[0] == 1, "bob isn't told of ann's diary")
+    score.check(root.ask("bob", "-c", "keys")[0] == 1, "what lies beside keys isn't searched")
     service.terminate()
     score.check(service.wait() == 0, "the end of the service")
 
@@ -108,12 +116,27 @@ def removed(root: Root, score: Score) -> None:
     """Removes the package, and purges it."""
     status, told = root.run("dpkg", "-r", "wumpus")
     score.check(status == 0, f"dpkg -r: {told}")
-    score.check((root.folder / "var/lib/wumpus/wumpus-store").exists(), "the store stays")
+    store = root.folder / "var/lib/wumpus/wumpus-store"
+    score.check(store.exists(), "the store stays")
+    others = root.folder / "var/lib/wumpus/notes"
+    others.write_text("an administrator's own\n")
     status, told = root.run("dpkg", "-P", "wumpus")
-    score.check(status == 0, f"dpkg -P: {told}")
+    score.check(status == 0 and not store.exists(), f"dpkg -P: {told}")
+    score.check(others.exists(), "a file that the package didn't make stays")
+    others.unlink()
+    others.parent.rmdir()
     left = [one for one in LEFT if (root.folder / one).exists()]
     score.check(left == [], f"after a purge: {left}")
-    score.check(root.run("id", "wumpus")[0] != 0, "the user is gone")
+
+
+def foreign(root: Root, score: Score) -> None:
+    """A person of the name of one of its accounts: the package isn't configured."""
+    root.run("userdel", "_wumpus")
+    root.run("useradd", "--create-home", "_wumpus")
+    status, told = root.run("dpkg", "-i", "/wumpus.deb")
+    score.check(status != 0 and "no system account" in told, f"a person's account: {told}")
+    root.run("dpkg", "-P", "wumpus")
+    root.run("userdel", "--remove", "_wumpus")
 
 
 def main() -> int:
@@ -132,6 +155,7 @@ def main() -> int:
         used(root, score)
         upgraded(root, score)
         removed(root, score)
+        foreign(root, score)
     finally:
         subprocess.run(["umount", process_folder])
     return score.end()

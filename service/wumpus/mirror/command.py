@@ -40,6 +40,7 @@ def parser() -> argparse.ArgumentParser:
     add("--sockets", default=SOCKETS, metavar="DIR", help=f"of the service ({SOCKETS})")
     add("--exclude", action="append", default=[], metavar="PATTERN",
         help="leave out names that fit, or with a / paths; may be given again")  # fmt: skip
+    add("--exclude-from", metavar="FILE", help="patterns of a file, one a line, # begins a comment")
     add("--one-file-system", action="store_true", help="stay on the file system of each root")
     add("--unlisted", action="store_true", help="show also what only who knows its name may open")
     add("--users", metavar="FILE", help="a user and her groups a line, in place of the system's")
@@ -64,11 +65,19 @@ def users_of(
     return (lambda: {}) if isinstance(reach, Served) else SystemUsers(warn).latest
 
 
+def patterns_in(path: Path) -> list[bytes]:
+    """The patterns of a file, one a line; blank lines and comments are none. Raises `OSError`."""
+    lines = [line.strip() for line in path.read_bytes().splitlines()]
+    return [line for line in lines if line and not line.startswith(b"#")]
+
+
 def wish_of(given: argparse.Namespace, folder: Path, users: Groups) -> Wish:
     """What the options ask for. Raises `OSError`."""
     omitted: frozenset[Identity] = frozenset([identity_of(folder.stat())])
-    excludes = tuple(os.fsencode(pattern) for pattern in given.exclude)
-    limits = Limits(excludes, given.one_file_system, omitted, Access(given.unlisted))
+    excludes = [os.fsencode(pattern) for pattern in given.exclude]
+    if given.exclude_from:
+        excludes += patterns_in(Path(given.exclude_from))
+    limits = Limits(tuple(excludes), given.one_file_system, omitted, Access(given.unlisted))
     return Wish(tuple(os.fsencode(root) for root in given.roots), limits, users)
 
 
@@ -78,7 +87,7 @@ def reach_of(given: argparse.Namespace, folder: Path) -> Direct | Served:
     Raises `Failed` where no service answers and one has to.
     """
     try:
-        return Served(Path(given.sockets) / CONTROL, folder)
+        return Served(Path(given.sockets) / CONTROL)
     except (FileNotFoundError, ConnectionRefusedError) as error:
         if given.served:
             raise Unanswered(f"no service answers at {given.sockets}/{CONTROL}") from error

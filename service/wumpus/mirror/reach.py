@@ -9,11 +9,13 @@ answer to the last three, or `failed WHY`.
 import contextlib
 import os
 import socket
+import stat
 from pathlib import Path
 from typing import Protocol
 
 from ..shared.peers import peer_of
 from ..shared.program import Ended, Program, Refused, Talk
+from ..shared.privileges import LEAST_PERSON
 from ..shared.script import escape, unescape
 from ..shared.store import Failed, move_aside, only_program
 from .batch import Batch
@@ -107,16 +109,24 @@ class Direct:
         self.lock.close()
 
 
+def _owner_of(folder: Path) -> int:
+    """The system account that alone may write to a folder; user 0 where there is no such one."""
+    status = os.lstat(folder)
+    alone = stat.S_ISDIR(status.st_mode) and not status.st_mode & 0o022
+    return status.st_uid if alone and status.st_uid < LEAST_PERSON else 0
+
+
 class Served:
     """The program that a service holds, by its control socket. It is handed everybody's texts.
 
-    So it has to be of user 0, of this process's own, or of the owner of the folder.
+    So it has to be of user 0, of this process's own, or of the owner of the folder in which the
+    socket is, who has to be a system account, and the only one who may put a socket there.
     """
 
-    def __init__(self, path: Path, folder: Path) -> None:
+    def __init__(self, path: Path) -> None:
         self.socket = socket.socket(socket.AF_UNIX, socket.SOCK_STREAM)
         self.socket.connect(str(path))
-        if peer_of(self.socket).user not in (0, os.geteuid(), folder.stat().st_uid):
+        if peer_of(self.socket).user not in (0, os.geteuid(), _owner_of(path.parent)):
             raise Failed(f"{path} isn't a socket of the service")
         self.answers = self.socket.makefile("rb")
 

@@ -12,11 +12,11 @@ from pathlib import Path
 
 from .store import Failed
 
+LEAST_PERSON = 1000  # of the numbers of users: system accounts are below
 _KEEP_CAPABILITIES, _BOUNDING_DROP, _NO_NEW_PRIVILEGES = 8, 24, 38  # of prctl(2)
 _READ_ALL = 2  # CAP_DAC_READ_SEARCH
 _VERSION = 0x20080522
 _NEVER_MORE = 64
-_LEAST_PERSON = 1000  # of the numbers of users; system accounts are below
 _libc = ctypes.CDLL(None, use_errno=True)
 
 
@@ -53,7 +53,7 @@ def become_owner_of(folder: Path) -> None:
         if capability != _READ_ALL:
             _libc.prctl(_BOUNDING_DROP, capability, 0, 0, 0)  # fails for numbers without meaning
     if status.st_uid != 0:
-        if status.st_uid >= _LEAST_PERSON:
+        if status.st_uid >= LEAST_PERSON:
             raise Failed(f"{folder} is of user {status.st_uid}, which is no system account")
         try:
             account = pwd.getpwuid(status.st_uid)
