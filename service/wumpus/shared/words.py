@@ -14,6 +14,8 @@ def word_of(run: bytes) -> bytes:
     It is cut to 64 bytes.
     Python folds by its own version of Unicode, which may not know the newest letters.
     """
+    if run.isascii():
+        return run[:WORD_MAX].lower()
     try:
         text, rest = run.decode(), b""
     except UnicodeDecodeError as fault:

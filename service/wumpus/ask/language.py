@@ -1,0 +1,566 @@
+"""What people type: a query, and the tree that it is read into.
+
+    query  = and { ("OR" | "|") and }
+    and    = not { ["AND"] not }
+    not    = { "-" | "NOT" } near
+    near   = unit { "NEAR" ["/" n] unit }
+    unit   = term | term "*" | '"' text '"' | "(" query ")" | "line:(" query ")" | filter
+    filter = ("in:" | "name:" | "ext:" | "path:") (value { "," value } | '"' value '"')
+
+A query is bytes, since names of files and words needn't be UTF-8. What can't be asked is a
+`Fault`, which says where and what to write.
+"""
+
+import re
+from collections.abc import Iterator
+from dataclasses import dataclass, field
+from enum import Enum, auto
+from typing import Generic, TypeVar, Union
+
+from ..shared.words import WORD
+
+QUERY_BYTES = 4096
+DEPTH = 32  # parentheses and NOTs in each other
+GAP = 10  # of a NEAR without a number
+GAP_MAX = 1000
+PREFIX_BYTES = 3  # what is shorter begins so many words that looking them up is dear for all
+
+_BLANK = rb"(?:[ \t\n\v\f\r]|\xc2\xa0|\xe2\x80\xaf)"  # with both spaces that don't break
+_QUOTE = rb'(?:"|\xe2\x80[\x9c-\x9f])'  # with the typographic ones
+_BLANKS = re.compile(_BLANK + rb"*")
+_QUOTES = re.compile(_QUOTE)
+_TERM = re.compile(rb"(?:(?!%b|%b)[^()|])+" % (_BLANK, _QUOTE), re.DOTALL)
+_NAMED = re.compile(rb"([A-Za-z]+):", re.DOTALL)
+_NEAR = re.compile(rb"NEAR(?:/(.*))?", re.DOTALL)
+_STARRED = re.compile(rb"[^*]*?([0-9A-Za-z\x80-\xff]+)\*", re.DOTALL)
+_ALIKE = re.compile(rb"[0-9A-Za-z\x80-\xff]~[0-9.]*$")
+_STAR_IN_QUOTES = re.compile(rb"[0-9A-Za-z\x80-\xff]\*")
+
+Leaf = TypeVar("Leaf")
+
+
+@dataclass(frozen=True)
+class Span:
+    """Some bytes of the query: from `start` to before `end`."""
+
+    start: int
+    end: int
+
+
+class Fault(Exception):
+    """A query that can't be asked: what to write, and which bytes are at fault."""
+
+    def __init__(self, message: str, span: Span) -> None:
+        super().__init__(message)
+        self.message = message
+        self.span = span
+
+
+@dataclass(frozen=True)
+class Word:
+    """A word as it was typed."""
+
+    text: bytes
+    span: Span = field(compare=False)
+
+
+@dataclass(frozen=True)
+class Prefix:
+    """What was typed before a `*`: it stands for the words that begin so."""
+
+    text: bytes
+    span: Span = field(compare=False)
+
+
+@dataclass(frozen=True)
+class Row:
+    """Words side by side on one line."""
+
+    words: tuple[Word | Prefix, ...]
+    span: Span = field(compare=False)
+
+
+@dataclass(frozen=True)
+class Phrase:
+    """Words side by side, perhaps over one line end."""
+
+    words: tuple[Word, ...]
+    span: Span = field(compare=False)
+
+
+Side = Union[Row, Phrase]
+
+
+@dataclass(frozen=True)
+class Near:
+    """One of each of the units, each with its alternatives, in a stretch; a gap for each NEAR."""
+
+    units: tuple[tuple[Side, ...], ...]
+    gaps: tuple[int, ...]
+    span: Span = field(compare=False)
+
+
+@dataclass(frozen=True)
+class Line:
+    """A line for which a query holds."""
+
+    query: "Tree[Unit]"
+    span: Span = field(compare=False)
+
+
+class Subject(Enum):
+    """What of a path a filter looks at."""
+
+    IN = "in"
+    NAME = "name"
+    EXTENSION = "ext"
+    PATH = "path"
+
+
+@dataclass(frozen=True)
+class Filter:
+    """A condition on paths: one of the values fits."""
+
+    subject: Subject
+    values: tuple[bytes, ...]
+    span: Span = field(compare=False)
+
+
+@dataclass(frozen=True)
+class And(Generic[Leaf]):
+    """All of two or more parts."""
+
+    parts: tuple["Tree[Leaf]", ...]
+
+
+@dataclass(frozen=True)
+class Or(Generic[Leaf]):
+    """One of two or more parts."""
+
+    parts: tuple["Tree[Leaf]", ...]
+
+
+@dataclass(frozen=True)
+class Not(Generic[Leaf]):
+    """All but what is in the part."""
+
+    part: "Tree[Leaf]"
+
+
+Unit = Union[Row, Phrase, Near, Line]
+Tree = Union[Leaf, And[Leaf], Or[Leaf], Not[Leaf]]
+Mixed = Union[Unit, Filter]
+
+
+@dataclass(frozen=True)
+class Question:
+    """What is asked: of texts, of paths, or of both."""
+
+    typed: bytes
+    texts: Tree[Unit] | None
+    paths: Tree[Filter] | None
+
+
+class _Kind(Enum):
+    OPEN = auto()
+    CLOSE = auto()
+    LINE = auto()
+    OR = auto()
+    AND = auto()
+    NOT = auto()
+    NEAR = auto()
+    QUOTED = auto()
+    TERM = auto()
+    FILTER = auto()
+
+
+@dataclass(frozen=True)
+class _Token:
+    kind: _Kind
+    span: Span
+    text: bytes = b""
+    gap: int = GAP
+    filter: Filter | None = None
+
+
+_SIGNS = {b"(": _Kind.OPEN, b")": _Kind.CLOSE, b"|": _Kind.OR}
+_OPERATORS = {b"AND": _Kind.AND, b"OR": _Kind.OR, b"NOT": _Kind.NOT}
+_SUBJECTS = {one.value.encode(): one for one in Subject}
+_BESIDE = "in: name: ext: path: stand beside the words, and not in an OR or a - with them"
+_AROUND_NEAR = "NEAR stands between words, phrases, and (this OR that)"
+_NO_STAR = "a * stands at the end of a word, and nothing else stands for letters"
+
+
+def text_of(some: bytes) -> str:
+    """The bytes as text; those that are no UTF-8 as surrogates."""
+    return some.decode("utf-8", "surrogateescape")
+
+
+# ---- tokens
+
+
+class _Reader:
+    """Cuts a query into tokens."""
+
+    def __init__(self, query: bytes) -> None:
+        self.query = query
+        self.at = 0
+
+    def tokens(self) -> Iterator[_Token]:
+        """All tokens. Raises `Fault`."""
+        stands_free = True  # a blank or an opening is before
+        while True:
+            start = self.at
+            self._skip_blanks()
+            stands_free = stands_free or self.at > start
+            if self.at == len(self.query):
+                return
+            token = self._next(stands_free)
+            stands_free = token.kind in (_Kind.OPEN, _Kind.LINE, _Kind.OR)
+            yield token
+
+    def _skip_blanks(self) -> None:
+        found = _BLANKS.match(self.query, self.at)
+        self.at = found.end() if found else self.at
+
+    def _next(self, stands_free: bool) -> _Token:
+        start = self.at
+        sign = self.query[start : start + 1]
+        if sign in _SIGNS:
+            self.at += 1
+            return _Token(_SIGNS[sign], Span(start, self.at))
+        if _QUOTES.match(self.query, start):
+            text = self._quoted()
+            return _Token(_Kind.QUOTED, Span(start, self.at), text)
+        if sign == b"-" and stands_free and self._goes_on(start + 1):
+            self.at += 1
+            return _Token(_Kind.NOT, Span(start, self.at))
+        return self._term()
+
+    def _goes_on(self, at: int) -> bool:
+        """Whether something stands here that isn't a blank or the end of a group."""
+        rest = self.query[at : at + 3]
+        return rest[:1] not in (b"", b")", b"|") and not re.match(_BLANK, rest)
+
+    def _quoted(self) -> bytes:
+        """What stands between the quote here and the next one."""
+        opening = _QUOTES.match(self.query, self.at)
+        start = opening.end() if opening else self.at
+        closing = _QUOTES.search(self.query, start)
+        if closing is None:
+            span = Span(self.at, start)
+            raise Fault("a quote is open: a phrase stands between two", span)
+        self.at = closing.end()
+        return self.query[start : closing.start()]
+
+    def _term(self) -> _Token:
+        start = self.at
+        found = _TERM.match(self.query, start)
+        self.at = found.end() if found else start + 1
+        text = self.query[start : self.at]
+        span = Span(start, self.at)
+        if text in _OPERATORS:
+            return _Token(_OPERATORS[text], span, text)
+        near = _NEAR.fullmatch(text)
+        if near is not None:
+            return _Token(_Kind.NEAR, span, text, gap=_gap_of(near[1], span))
+        named = _NAMED.match(text)
+        if named is not None:
+            return self._named(named[1], text[named.end() :], span)
+        return _Token(_Kind.TERM, span, text)
+
+    def _named(self, name: bytes, rest: bytes, span: Span) -> _Token:
+        """A filter, `line:(`, or a text with a colon in it."""
+        joined = re.compile(rb"\(|" + _QUOTE).match(self.query, self.at)
+        if name == b"line":
+            if rest or joined is None or joined.group() != b"(":
+                raise Fault("line: stands before a parenthesis: line:(budget lunch)", span)
+            self.at += 1
+            return _Token(_Kind.LINE, Span(span.start, self.at))
+        if name in _SUBJECTS:
+            filter_ = self._filter(name, rest, span, joined is not None)
+            return _Token(_Kind.FILTER, filter_.span, filter=filter_)
+        is_field = WORD.match(rest) is not None if rest else joined is not None
+        if is_field:
+            told = text_of(name)
+            raise Fault(
+                f"there is no {told}: here, but in: name: ext: path: line:(..). "
+                f'As text: "{told} .."',
+                span,
+            )
+        return _Token(_Kind.TERM, span, name + b":" + rest)
+
+    def _filter(self, name: bytes, rest: bytes, span: Span, is_joined: bool) -> Filter:
+        told = text_of(name)
+        if is_joined and (rest or self.query[self.at : self.at + 1] == b"("):
+            raise Fault(f'a value with blanks or parentheses stands in quotes: {told}:".."', span)
+        values = (self._quoted(),) if is_joined else tuple(filter(None, rest.split(b",")))
+        if not any(values):
+            raise Fault(f"{told}: stands before a value, without a blank: {told}:..", span)
+        return Filter(_SUBJECTS[name], values, Span(span.start, self.at))
+
+
+def _gap_of(number: bytes | None, span: Span) -> int:
+    if number is None:
+        return GAP
+    if re.fullmatch(rb"[0-9]{1,4}", number) is None or not 1 <= int(number) <= GAP_MAX:
+        raise Fault(f"after NEAR/ stands a number from 1 to {GAP_MAX}", span)
+    return int(number)
+
+
+# ---- the tree
+
+
+class _Parser:
+    """Reads tokens into a tree, by a method for each rule of the grammar."""
+
+    def __init__(self, query: bytes) -> None:
+        self.tokens = list(_Reader(query).tokens())
+        self.end = len(query)
+        self.at = 0
+        self.depth = 0
+
+    def whole(self) -> Tree[Mixed]:
+        """All of it."""
+        tree = self._query()
+        if self.at < len(self.tokens):
+            raise Fault("this ) closes nothing", self.tokens[self.at].span)
+        return tree
+
+    def _kind(self) -> _Kind | None:
+        return self.tokens[self.at].kind if self.at < len(self.tokens) else None
+
+    def _take(self) -> _Token:
+        if self.at == len(self.tokens):
+            raise Fault("something is missing at the end", Span(self.end, self.end))
+        self.at += 1
+        return self.tokens[self.at - 1]
+
+    def _query(self) -> Tree[Mixed]:
+        parts = [self._and()]
+        while self._kind() is _Kind.OR:
+            self._take()
+            parts.append(self._and())
+        return parts[0] if len(parts) == 1 else Or(tuple(parts))
+
+    def _and(self) -> Tree[Mixed]:
+        parts = [self._not()]
+        while self._kind() not in (None, _Kind.CLOSE, _Kind.OR):
+            if self._kind() is _Kind.AND:
+                self._take()
+            parts.append(self._not())
+        return parts[0] if len(parts) == 1 else And(tuple(parts))
+
+    def _not(self) -> Tree[Mixed]:
+        if self._kind() is not _Kind.NOT:
+            return self._near()
+        self._deeper(self._take())
+        part = self._not()
+        self.depth -= 1
+        return Not(part)
+
+    def _near(self) -> Tree[Mixed]:
+        start = self.at
+        first = self._unit()
+        if self._kind() is not _Kind.NEAR:
+            return first
+        units = [self._side(first, start)]
+        gaps = []
+        while self._kind() is _Kind.NEAR:
+            gaps.append(self._take().gap)
+            place = self.at
+            if self._kind() in (_Kind.NOT, _Kind.LINE, _Kind.FILTER):
+                raise Fault(_AROUND_NEAR, self.tokens[place].span)
+            units.append(self._side(self._unit(), place))
+        return Near(tuple(units), tuple(gaps), self._span_from(start))
+
+    def _span_from(self, start: int) -> Span:
+        """The bytes of the tokens from that one on which were taken."""
+        return Span(self.tokens[start].span.start, self.tokens[self.at - 1].span.end)
+
+    def _side(self, tree: Tree[Mixed], start: int) -> tuple[Side, ...]:
+        """The alternatives of a unit of NEAR."""
+        if isinstance(tree, (Row, Phrase)):
+            return (tree,)
+        if isinstance(tree, Or):
+            return tuple(side for part in tree.parts for side in self._side(part, start))
+        raise Fault(_AROUND_NEAR, self._span_from(start))
+
+    def _unit(self) -> Tree[Mixed]:
+        token = self._take()
+        if token.kind is _Kind.TERM:
+            return _row_of(token)
+        if token.kind is _Kind.QUOTED:
+            return _phrase_of(token)
+        if token.filter is not None:
+            return token.filter
+        if token.kind is _Kind.OPEN:
+            return self._group(token)
+        if token.kind is _Kind.LINE:
+            start = self.at - 1
+            within = _without_filters(self._group(token))
+            return Line(within, self._span_from(start))
+        raise Fault("something is missing before this", token.span)
+
+    def _group(self, opening: _Token) -> Tree[Mixed]:
+        """What stands up to the parenthesis that closes."""
+        self._deeper(opening)
+        if self._kind() is None:
+            raise Fault("this ( is never closed", _last_byte_of(opening.span))
+        within = self._query()
+        if self._kind() is not _Kind.CLOSE:
+            raise Fault("this ( is never closed", _last_byte_of(opening.span))
+        self._take()
+        self.depth -= 1
+        return within
+
+    def _deeper(self, token: _Token) -> None:
+        self.depth += 1
+        if self.depth > DEPTH:
+            message = f"more than {DEPTH} parentheses and - stand in each other here"
+            raise Fault(message, token.span)
+
+
+def _last_byte_of(span: Span) -> Span:
+    return Span(span.end - 1, span.end)
+
+
+def _words_in(text: bytes, start: int, span: Span) -> tuple[Word, ...]:
+    """The words of a text that begins at that byte of the query. Raises `Fault` if it has none."""
+    words = tuple(
+        Word(found.group(), Span(start + found.start(), start + found.end()))
+        for run in _between_blanks(text)
+        for found in WORD.finditer(text, run.start, run.end)
+    )
+    if not words:
+        raise Fault(f"{text_of(text) or 'this'} has no letter or digit", span)
+    return words
+
+
+def _between_blanks(text: bytes) -> Iterator[Span]:
+    """The pieces between blanks: those that don't break would be parts of words."""
+    start = 0
+    for blank in re.finditer(_BLANK, text):
+        yield Span(start, blank.start())
+        start = blank.end()
+    yield Span(start, len(text))
+
+
+def _row_of(token: _Token) -> Row:
+    text = token.text
+    if _ALIKE.search(text):
+        message = "there is no search for words that are alike: write plan*, or a OR b"
+        raise Fault(message, token.span)
+    words = _words_in(text, token.span.start, token.span) if b"*" not in text else ()
+    return Row(words or _starred(text, token.span), token.span)
+
+
+def _starred(text: bytes, span: Span) -> tuple[Word | Prefix, ...]:
+    """The words of a term with a star: the last one stands for those that begin so."""
+    starred = _STARRED.fullmatch(text)
+    if starred is None:
+        raise Fault(_NO_STAR, span)
+    if len(starred[1]) < PREFIX_BYTES:
+        raise too_short(span)
+    *before, last = _words_in(text, span.start, span)
+    return (*before, Prefix(last.text, Span(last.span.start, span.end)))
+
+
+def too_short(span: Span) -> Fault:
+    """What is said of a prefix that too many words may begin with."""
+    return Fault(f"before a * stand at least {PREFIX_BYTES} letters", span)
+
+
+def _phrase_of(token: _Token) -> Phrase:
+    star = _STAR_IN_QUOTES.search(token.text)
+    if star is not None:
+        message = "a * can't stand in quotes: plan* alone stands for words"
+        raise Fault(message, token.span)
+    # The quote before the text has one byte or three; spans of words tell no more than a column.
+    start = token.span.end - len(token.text) - 1
+    return Phrase(_words_in(token.text, start, token.span), token.span)
+
+
+# ---- texts and paths
+
+
+def _filters_in(tree: Tree[Mixed]) -> Iterator[Filter]:
+    if isinstance(tree, Filter):
+        yield tree
+    elif isinstance(tree, Not):
+        yield from _filters_in(tree.part)
+    elif isinstance(tree, (And, Or)):
+        for part in tree.parts:
+            yield from _filters_in(part)
+
+
+def _without_filters(tree: Tree[Mixed]) -> Tree[Unit]:
+    """The same tree, of texts alone. Raises `Fault` where a filter is in it."""
+    if isinstance(tree, Filter):
+        raise Fault(_BESIDE, tree.span)
+    if isinstance(tree, Not):
+        return Not(_without_filters(tree.part))
+    if isinstance(tree, And):
+        return And(tuple(_without_filters(part) for part in tree.parts))
+    if isinstance(tree, Or):
+        return Or(tuple(_without_filters(part) for part in tree.parts))
+    return tree
+
+
+def _of_filters(tree: Tree[Mixed], filter_: Filter) -> Tree[Filter]:
+    """The same tree, of filters alone. Raises `Fault` at a filter of it where it has others."""
+    if isinstance(tree, Filter):
+        return tree
+    if isinstance(tree, Not):
+        return Not(_of_filters(tree.part, filter_))
+    if isinstance(tree, And):
+        return And(tuple(_of_filters(part, filter_) for part in tree.parts))
+    if isinstance(tree, Or):
+        return Or(tuple(_of_filters(part, filter_) for part in tree.parts))
+    raise Fault(_BESIDE, filter_.span)
+
+
+def read(query: bytes) -> Question:
+    """What a query asks. Raises `Fault`."""
+    if len(query) > QUERY_BYTES:
+        message = f"the query is too long: it has {len(query)} bytes of at most {QUERY_BYTES}"
+        raise Fault(message, Span(QUERY_BYTES, len(query)))
+    if _BLANKS.fullmatch(query):
+        raise Fault("there is nothing to look for", Span(0, len(query)))
+    tree = _Parser(query).whole()
+    texts: list[Tree[Unit]] = []
+    paths: list[Tree[Filter]] = []
+    for part in tree.parts if isinstance(tree, And) else (tree,):
+        filter_ = next(_filters_in(part), None)
+        if filter_ is None:
+            texts.append(_without_filters(part))
+        else:
+            paths.append(_of_filters(part, filter_))
+    return Question(query, _all_of(texts), _all_of(paths))
+
+
+def _all_of(parts: "list[Tree[Leaf]]") -> "Tree[Leaf] | None":
+    if not parts:
+        return None
+    return parts[0] if len(parts) == 1 else And(tuple(parts))
+
+
+def any_of(question: Question) -> Question:
+    """The same, with one of the words in place of all. What is excluded stays so."""
+    if not isinstance(question.texts, And):
+        return question
+    wanted = [part for part in question.texts.parts if not isinstance(part, Not)]
+    others = [part for part in question.texts.parts if isinstance(part, Not)]
+    if len(wanted) > 1:
+        wanted = [Or(tuple(wanted))]
+    return Question(question.typed, _all_of(wanted + others), question.paths)
+
+
+def is_plain(argument: bytes) -> bool:
+    """Whether an argument has several words and no syntax, so that it is meant as a phrase."""
+    try:
+        tokens = list(_Reader(argument).tokens())
+    except Fault:
+        return False
+    are_terms = all(one.kind is _Kind.TERM and b"*" not in one.text for one in tokens)
+    return are_terms and len(tokens) > 1
