@@ -1,300 +1,284 @@
 """The command line of `wumpus-ask`: for people who look for something in files."""
 
 import argparse
-import base64
-import io
-import json
 import os
-import socket
-import stat
 import sys
 from collections.abc import Iterator
 from contextlib import suppress
-from dataclasses import dataclass
+from dataclasses import dataclass, replace
 from pathlib import Path
-from typing import Any
 
-from .. import VERSION
 from ..shared.progress import plain
-from ..shared.queries import QUERY_MAX
-from ..shared.script import SHOWN_MAX, TEXT_MAX, BadReply, lines_after, spell, unescape
-from ..shared.store import SOCKETS
-from ..shared.words import WORDS_OF_RANKING, spans_of, words_of
-from .habits import about_expression, about_words
+from ..shared.script import SHOWN_MAX
+from ..shared.store import ASK
+from . import language
+from .asking import Asking, Trouble
+from .explain import Why, at_fault, explained, too_long
+from .expression import Scope, TooLong
+from .forms import Forms, Marks, find_forms
+from .language import Fault, Line, Question, Span
+from .options import query_of, read_arguments
+from .output import Around, Format, Layer, Result, Style, Writer, as_json, has_colour
+from .paths import Standing, condition_of, missing_folders
+from .places import check_expression, run_expression
+from .results import Choice, Share, of_each_file, of_files, of_places
+from .search import Count, Meant, Search
+from .suggestions import completions
+from .terminal import open_in_editor, paged
 
 FOUND, NONE, TROUBLE = 0, 1, 2
-LINES_OF_FILE = 3
-SECONDS = 60.0
-
-REFUSALS = {
-    b"syntax": "the service didn't understand the query",
-    b"longline": "the query is too long",
-    b"notexpr": "this isn't an expression: see wumpus-ask(1)",
-    b"toolarge": "the expression has more than 63 operators or 64 parentheses",
-    b"noword": "there is no word in it: a word is of letters and digits",
-    b"badwindow": "a window is [1] to [65535]",
-    b"manywords": "there are more than 64 words",
-    b"badprefix": "a prefix is empty, or letters and digits alone",
-    b"notready": "the service has just begun, and is still looking at the files: ask again soon",
-    b"tooslow": "this took too long: ask for something rarer, and wait a minute",
-    b"toolargereply": "there are too many results: ask for fewer with -n",
-    b"stopped": "the search was ended in its midst: ask again",
-    b"nobody": "your number is that of nobody (65534), for whom nothing is searched",
-    b"groups": "you are in more groups than the service can tell the program",
-    b"connections": "there are too many connections: ask again soon",
-    b"notquery": "the service didn't take this for a query",
-}
+FILES_AT_TERMINAL = 10
+LINES_AT_TERMINAL = 3
+LIST_FORMATS = (Format.PATHS, Format.PATHS_WITH_NUL)
 
 
-class Trouble(Exception):
-    """Nothing was found out; the text says why."""
+class Misread(Trouble):
+    """The query can't be asked; where and why stands below it."""
+
+    def __init__(self, query: bytes, fault: Fault) -> None:
+        super().__init__(fault.message)
+        self.lines = at_fault(query, fault)
 
 
 @dataclass(frozen=True)
-class Options:
-    """How results are shown."""
+class Wish:
+    """What is written, and how much of it."""
 
-    terminal: bool
-    colour: bool
-    json: bool
+    given: argparse.Namespace
+    format: Format
+    style: Style
+    number: int
+    share: Share
+
+    @property
+    def wants_lines(self) -> bool:
+        """Whether lines are the results, and not files."""
+        return bool(self.given.lines) and not self.is_list
+
+    @property
+    def is_list(self) -> bool:
+        """Whether paths alone are written."""
+        return bool(self.given.list or self.given.null)
 
 
-def parser() -> argparse.ArgumentParser:
-    """The options."""
-    options = argparse.ArgumentParser(
-        prog="wumpus-ask",
-        description="Searches the files that you may read, by their words.",
-        epilog="Exit status: 0 something was found, 1 nothing, 2 trouble.",
-        allow_abbrev=False,
+def wish_of(given: argparse.Namespace) -> Wish:
+    """What the options wish."""
+    is_terminal = sys.stdout.isatty()
+    format_ = _format_of(given, is_terminal)
+    colour = "never" if given.no_color else given.color
+    is_coloured = has_colour(colour, is_terminal) and format_ is not Format.JSON
+    has_links = given.hyperlink == "always" or (given.hyperlink == "auto" and is_coloured)
+    layer = Layer.TERMINAL if is_terminal else Layer.PIPE
+    is_short = is_terminal and format_ in (Format.HEADS, Format.PATHS)
+    number = FILES_AT_TERMINAL if is_short else SHOWN_MAX
+    number = max(number, given.open or 0) if given.number is None else given.number
+    return Wish(
+        given, format_, Style(layer, is_coloured, has_links), number, _share_of(given, format_)
     )
-    add = options.add_argument
-    add("words", nargs="*", metavar="WORD", help="files with any of these words, the best first")
-    how = options.add_mutually_exclusive_group()
-    how.add_argument("-c", "--count", action="store_true", help="count matches and files alone")
-    how.add_argument("-l", "--list", action="store_true", help="list paths alone")
-    add("-e", "--expression", metavar="EXPR", help="the places of an expression, by path")
-    add("-n", "--number", type=int, default=10, metavar="N", help="show at most so many (10)")
-    add("--json", action="store_true", help="a JSON value a line")
-    add("--no-color", action="store_true", help="no highlighting")
-    add("--sockets", default=SOCKETS, metavar="DIR", help=f"of the service ({SOCKETS})")
-    add("--version", action="version", version=f"wumpus-ask {VERSION}")
-    return options
 
 
-def shown(text: bytes, options: Options) -> str:
-    """A name or a line: on a terminal with its control characters as escapes."""
-    told = text.decode("utf-8", "surrogateescape")
-    return plain(told.replace("\t", "    ")) if options.terminal else told
+def _format_of(given: argparse.Namespace, is_terminal: bool) -> Format:
+    if given.json:
+        return Format.JSON
+    if given.null:
+        return Format.PATHS_WITH_NUL
+    if given.list:
+        return Format.PATHS
+    if given.vimgrep:
+        return Format.VIMGREP
+    return Format.HEADS if is_terminal else Format.LINES
 
 
-def coloured(line: bytes, words: frozenset[bytes], options: Options) -> str:
-    """A line with its matches highlighted."""
-    if not options.colour:
-        return shown(line, options)
-    told = []
-    last = 0
-    for start, end in spans_of(line, words):
-        told += [shown(line[last:start], options), "\x1b[1;31m"]
-        told += [shown(line[start:end], options), "\x1b[0m"]
-        last = end
-    return "".join(told) + shown(line[last:], options)
+def _share_of(given: argparse.Namespace, format_: Format) -> Share:
+    """How much is shown of a file."""
+    both = given.context or 0
+    before, after = given.before_context, given.after_context
+    around = Around(both if before is None else before, both if after is None else after)
+    if given.list or given.null:
+        return Share(Choice.NONE, 0, around)
+    is_best = format_ is Format.HEADS
+    most = LINES_AT_TERMINAL if is_best and not given.lines else SHOWN_MAX
+    if given.max_count is not None:
+        most = given.max_count
+    return Share(Choice.BEST if is_best else Choice.FIRST, most, around)
 
 
-class Asking:
-    """A connection to the service."""
-
-    def __init__(self, path: Path) -> None:
-        self.socket = socket.socket(socket.AF_UNIX, socket.SOCK_STREAM)
-        self.socket.settimeout(SECONDS)
-        try:
-            self.socket.connect(str(path))
-        except (FileNotFoundError, ConnectionRefusedError) as error:
-            raise Trouble(f"no service answers at {path}: is wumpusd running?") from error
-        except OSError as error:
-            raise Trouble(f"{path}: {error.strerror}") from error
-        self.answers = self.socket.makefile("rb")
-
-    def ask(self, *fields: bytes | int) -> list[list[bytes]]:
-        """The lines of a reply, as fields. Raises `Trouble` where it is a refusal."""
-        line = spell(*fields)
-        if len(line) > QUERY_MAX:
-            raise Trouble("the query is too long")
-        try:
-            # A service that refuses the connection says why and closes it, maybe before the query
-            # is sent.
-            with suppress(BrokenPipeError, ConnectionResetError):
-                self.socket.sendall(line)
-            first = self._line()
-            lines = [first, *(self._line() for _ in range(lines_after(first)))]
-        except (OSError, BadReply) as error:
-            raise Trouble(f"the service: {error}") from error
-        told = [[unescape(one) or b"" for one in line.split(b"\t")] for line in lines]
-        if told[0][0] == b"refused":
-            word = told[0][-1]
-            raise Trouble(REFUSALS.get(word, f"refused: {word.decode('utf-8', 'replace')}"))
-        return told
-
-    def _line(self) -> bytes:
-        line = self.answers.readline()
-        if not line.endswith(b"\n"):
-            raise Trouble("the service ended the connection")
-        return line[:-1]
+# ---- what is asked
 
 
-def as_json(value: dict[str, Any]) -> str:
-    """A JSON value on a line, in printable ASCII. What is no UTF-8 stands beside in base 64."""
-    told: dict[str, Any] = {}
-    for key, one in value.items():
-        if isinstance(one, bytes):
-            told[key] = one.decode("utf-8", "replace")
-            if told[key].encode("utf-8") != one:
-                told[key + "_base64"] = base64.b64encode(one).decode("ascii")
-        else:
-            told[key] = one
-    return json.dumps(told).replace("\x7f", "\\u007f")
-
-
-def lines_with(path: bytes, words: frozenset[bytes]) -> list[tuple[int, bytes]]:
-    """The first lines of a file that have one of the words, with their numbers.
-
-    The file is read with the rights of the user who asks. It may have changed since it was indexed.
-    """
-    flags = os.O_RDONLY | os.O_NOFOLLOW | os.O_NONBLOCK | os.O_NOCTTY | os.O_CLOEXEC
+def question_of(given: argparse.Namespace) -> Question:
+    """What the arguments ask. Raises `Misread`, and `Trouble` where a file can't be read."""
+    typed = query_of(given.words) if given.file is None else _query_in(given.file)
     try:
-        descriptor = os.open(path, flags)
-    except OSError:
-        return []
-    found: list[tuple[int, bytes]] = []
-    with open(descriptor, "rb") as file:
-        status = os.fstat(descriptor)
-        if not stat.S_ISREG(status.st_mode) or status.st_size > TEXT_MAX:
-            return []
-        for number, line in enumerate(file, 1):
-            if any(True for _ in spans_of(line, words)):
-                found.append((number, line.rstrip(b"\r\n")))
-                if len(found) == LINES_OF_FILE:
-                    break
-    return found
+        question = language.read(typed)
+    except Fault as fault:
+        raise Misread(typed, fault) from fault
+    if given.any:
+        question = language.any_of(question)
+    if given.lines and (given.list or given.null) and question.texts is not None:
+        return replace(question, texts=Line(question.texts, Span(0, len(typed))))
+    return question
 
 
-def quoted(words: list[bytes]) -> bytes:
-    """The expression for any of the words."""
-    return b" + ".join(b'"%s"' % word for word in dict.fromkeys(words))
+def _query_in(name: str) -> bytes:
+    """The query in a file; no more is read of it than is needed to say that it is too long."""
+    try:
+        with open(0 if name == "-" else name, "rb", closefd=name != "-") as file:
+            return file.read(language.QUERY_BYTES + 2).rstrip(b"\r\n")
+    except OSError as error:
+        raise Trouble(f"{name}: {error.strerror}") from error
 
 
-def count(asking: Asking, expression: bytes, options: Options) -> int:
-    """Counts matches and files."""
-    _, hits, files = asking.ask(b"count", expression)[0]
-    if options.json:
-        print(as_json({"matches": int(hits), "files": int(files)}))
+def meant_by(question: Question, given: argparse.Namespace, asking: Asking) -> Meant:
+    """The question with the words for which its words stand, and its condition on paths."""
+    forms = Forms()
+    marks = Marks.LEFT_OUT if given.exact_words else Marks.COUNTED
+    if question.texts is not None:
+        try:
+            forms = find_forms(question.texts, marks, asking.terms)
+        except Fault as fault:
+            raise Misread(question.typed, fault) from fault
+    if question.paths is None:
+        return Meant(question, forms, None)
+    standing = Standing(os.getcwdb())
+    for folder in missing_folders(question.paths, standing):
+        tell(f"there is no directory {language.text_of(folder)}")
+    return Meant(question, forms, condition_of(question.paths, standing))
+
+
+# ---- what is told
+
+
+def tell(text: str) -> None:
+    """Says something on standard error."""
+    print(f"wumpus-ask: {plain(text)}", file=sys.stderr)
+
+
+def told_count(count: Count, what: str) -> str:
+    """A number of files or lines."""
+    least = "" if count.is_exact else "at least "
+    return f"{least}{count.number} {what if count.number == 1 else what + 's'}"
+
+
+def write_count(search: Search, wish: Wish) -> int:
+    """Writes how many there are."""
+    if wish.given.lines:
+        places = search.lines(0)
+        total = places.total
+        told = f"{told_count(total, 'line')} in {told_count(places.files, 'file')}"
+        value = {"lines": total.number, "files": places.files.number}
     else:
-        print(f"{hits.decode()} matches in {files.decode()} files")
-    return FOUND if hits != b"0" else NONE
+        total = search.count()
+        told, value = told_count(total, "file"), {"files": total.number}
+    value["exact"] = total.is_exact
+    sys.stdout.buffer.write(as_json(value) if wish.given.json else told.encode() + b"\n")
+    return FOUND if total.number else NONE
 
 
-def ranked(asking: Asking, words: list[bytes], given: argparse.Namespace, how: Options) -> int:
-    """Files by rank: their paths, with the first lines that match."""
-    first, *results = asking.ask(b"rank", given.number, b"file", b" ".join(words))
-    wanted = frozenset(words)
-    for place, (score, path, _, _) in enumerate(results):
-        lines = [] if given.list else lines_with(path, wanted)
-        if how.json:
-            told = [{"line": number, "text": line.decode("utf-8", "replace")}
-                    for number, line in lines]  # fmt: skip
-            value: dict[str, Any] = {"path": path, "score": int(score)}
-            print(as_json(value if given.list else value | {"lines": told}))
-        elif given.list:
-            print(shown(path, how))
-        else:
-            print(("\n" if place else "") + path_line(path, how))
-            for number, line in lines:
-                print(f"  {number}: {coloured(line[:500], wanted, how)}")
-    tell_of_more(int(first[1]), len(results), "files", how)
-    return FOUND if first[1] != b"0" else NONE
+def results_of(search: Search, wish: Wish) -> tuple[Iterator[Result], Count]:
+    """The results, and how many there are of all."""
+    share = wish.share
+    if not wish.wants_lines:
+        files = search.files(wish.number)
+        return of_files(files.first, search.meant, share), files.total
+    has_few = wish.given.max_count is not None
+    places = search.lines(SHOWN_MAX if has_few else wish.number)
+    first = of_each_file(places.first, share.lines) if has_few else places.first
+    return of_places(first[: wish.number], search.meant, share.around), places.total
 
 
-def path_line(path: bytes, options: Options) -> str:
-    """A path as the head of its lines."""
-    told = shown(path, options)
-    return f"\x1b[35m{told}\x1b[0m" if options.colour else told
+def write_results(search: Search, wish: Wish) -> int:
+    """Writes what is found."""
+    results, total = results_of(search, wish)
+    if wish.given.open is not None:
+        return open_result(list(results), wish.given.open)
+    written = 0
+    with paged(wish.format in (Format.HEADS, Format.PATHS) and _may_page(wish)) as out:
+        writer = Writer(out, wish.style, wish.format, wish.share.around)
+        for result in results:
+            writer.write(result)
+            written += sum(1 for _ in result.rows()) if wish.wants_lines else 1
+            if result.note and wish.format in (Format.LINES, Format.VIMGREP):
+                tell(f"{language.text_of(result.path)}: {result.note}")
+    if wish.style.is_terminal and written < total.number and wish.format is not Format.JSON:
+        left = replace(total, number=total.number - written)
+        tell(f"{told_count(left, 'more line' if wish.wants_lines else 'more file')}: -n shows more")
+    return FOUND if total.number else NONE
 
 
-def tell_of_more(found: int, told: int, what: str, options: Options) -> None:
-    """Says on a terminal that not all was shown."""
-    if options.terminal and not options.json and told < found:
-        print(f"{found - told} more {what}: -n shows more", file=sys.stderr)
+def _may_page(wish: Wish) -> bool:
+    return wish.style.is_terminal and not wish.given.no_pager
 
 
-def places(asking: Asking, given: argparse.Namespace, options: Options) -> int:
-    """The places of an expression, in the order of paths."""
-    expression = os.fsencode(given.expression)
-    first, *results = asking.ask(b"find", given.number, expression)
-    words = frozenset(words_of(b" ".join(quoted_in(expression))))
-    last = b""
-    for path, start, end, line, snippet in results:
-        if options.json:
-            value = {"path": path, "start": int(start), "end": int(end)}
-            print(as_json(value | {"line": int(line), "text": snippet}))
-        elif given.list:
-            if path != last:
-                print(shown(path, options))
-        else:
-            told = coloured(snippet, words, options)
-            print(f"{path_line(path, options)}:{line.decode()}: {told}")
-        last = path
-    tell_of_more(int(first[1]), len(results), "places", options)
-    return FOUND if first[1] != b"0" else NONE
+def open_result(results: list[Result], number: int) -> int:
+    """Opens one of the results in an editor, at its first line that matches."""
+    if number > len(results):
+        raise Trouble(f"there are {len(results)} results")
+    result = results[number - 1]
+    first = next(result.rows(), None)
+    return open_in_editor(result.path, first.number if first else 1)
 
 
-def quoted_in(expression: bytes) -> Iterator[bytes]:
-    """What stands in quotes."""
-    yield from expression.split(b'"')[1::2]
+# ---- the run
 
 
 def run(given: argparse.Namespace) -> int:
     """Asks what the options ask. Raises `Trouble`."""
-    if bool(given.words) == (given.expression is not None):
-        raise Trouble("give words, or an expression with -e")
-    if not 0 <= given.number <= SHOWN_MAX:
-        raise Trouble(f"-n is 0 to {SHOWN_MAX}")
-    terminal = sys.stdout.isatty()
-    colour = terminal and not given.no_color and not given.json and "NO_COLOR" not in os.environ
-    options = Options(terminal, colour, given.json)
+    wish = wish_of(given)
+    if given.complete is not None:
+        return complete(given)
     if given.expression is not None:
-        told = about_expression(given.expression)
-        if told is not None:
-            raise Trouble(told)
-        asking = Asking(Path(given.sockets) / "ask")
-        if given.count:
-            return count(asking, os.fsencode(given.expression), options)
-        return places(asking, given, options)
-    told = about_words(given.words)
-    if told is not None:
-        raise Trouble(told)
-    words = words_of(os.fsencode(" ".join(given.words)))
-    if not words:
-        raise Trouble(REFUSALS[b"noword"])
-    if len(words) > WORDS_OF_RANKING:
-        raise Trouble(REFUSALS[b"manywords"])
-    asking = Asking(Path(given.sockets) / "ask")
-    if given.count:
-        return count(asking, quoted(words), options)
-    return ranked(asking, words, given, options)
+        check_expression(given.expression)
+        return run_expression(_asking(given), given, wish.style)
+    question = question_of(given)
+    asking = _asking(given)
+    meant = meant_by(question, given, asking)
+    search = Search(asking, meant)
+    try:
+        if given.explain:
+            for line in explained(meant, Scope.LINE if wish.wants_lines else Scope.FILE):
+                tell(line)
+        status = (write_count if given.count else write_results)(search, wish)
+        if status == NONE and wish.style.is_terminal and not given.json:
+            tell_why(search)
+    except TooLong as fault:
+        raise Trouble(too_long(meant, fault)) from fault
+    for note in (*meant.forms.notes, *search.notes):
+        tell(note)
+    return status
+
+
+def tell_why(search: Search) -> None:
+    """Says why nothing was found, and what may have been meant."""
+    with suppress(Trouble):  # it is a help: that nothing was found is known
+        for line in Why(search).nothing():
+            tell(line)
+
+
+def complete(given: argparse.Namespace) -> int:
+    """Writes the words with which one goes on, for the completions of a shell."""
+    found = completions(os.fsencode(given.complete), _asking(given))
+    sys.stdout.buffer.write(b"".join(one + b"\n" for one in found))
+    return FOUND if found else NONE
+
+
+def _asking(given: argparse.Namespace) -> Asking:
+    return Asking(Path(given.sockets) / ASK)
 
 
 def main() -> int:
     """Runs the command line: 0 found, 1 not, 2 trouble, as grep has them."""
-    given = parser().parse_args()
-    if isinstance(sys.stdout, io.TextIOWrapper):
-        sys.stdout.reconfigure(errors="surrogateescape")
     try:
-        status = run(given)
+        status = run(read_arguments(sys.argv[1:]))
         sys.stdout.flush()
         return status
     except Trouble as trouble:
-        print(f"wumpus-ask: {plain(str(trouble))}", file=sys.stderr)
+        tell(str(trouble))
+        for line in trouble.lines if isinstance(trouble, Misread) and sys.stderr.isatty() else ():
+            print(line, file=sys.stderr)
     except BrokenPipeError:
         os.dup2(os.open(os.devnull, os.O_WRONLY), 1)
+        return FOUND
     except KeyboardInterrupt:
         pass
     return TROUBLE
