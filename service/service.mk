@@ -3,9 +3,23 @@
 SERVICE_SBIN := wumpus-mirror wumpusd
 SERVICE_BIN := wumpus-ask wumpus-lint
 SERVICE_PACKAGES := $(notdir $(patsubst %/,%,$(dir $(wildcard service/wumpus/*/__init__.py))))
-SERVICE_SCRIPTS := $(shell grep -slI '^\#!.*python3' $(wildcard tools/* bench/*) 2>/dev/null | grep -v '\.py$$')
-SERVICE_TESTS := plan state mirror look language ask client limits service neighbours kernel race
-SERVICE_TEST_PROGRAM ?= $(abspath $(WUMPUS))
+SERVICE_SCRIPTS := $(shell grep -slI '^\#!.*python3' \
+	$(wildcard tools/* bench/* service/tests/*) 2>/dev/null | grep -v '\.py$$')
+SERVICE_TESTS := \
+	stand_in \
+	plan \
+	state \
+	mirror \
+	look \
+	language \
+	ask \
+	client \
+	limits \
+	service \
+	neighbours \
+	kernel \
+	race
+SERVICE_TEST_PROGRAM ?=
 UNITDIR ?= $(PREFIX)/lib/systemd/system
 SYSCONFDIR ?= /etc
 
@@ -44,11 +58,12 @@ install-service:
 	test -e $(DESTDIR)$(SYSCONFDIR)/wumpus/excludes || \
 		install -D -m 644 service/systemd/excludes $(DESTDIR)$(SYSCONFDIR)/wumpus/excludes
 
-# As root; without it, the tests that take on the ids of users say that they are skipped.
+# As root; without it, the tests that take on the ids of users say that they are skipped. Where no
+# program is built, and SERVICE_TEST_PROGRAM names none, the stand-in answers, and says so.
 service-test:
 	@failed=0; for name in $(SERVICE_TESTS); do \
 		/usr/bin/env python3 service/tests/$${name}_test.py \
-			--program $(SERVICE_TEST_PROGRAM) || failed=1; \
+			$(addprefix --program ,$(SERVICE_TEST_PROGRAM)) || failed=1; \
 	done; exit $$failed
 
 # A tool that isn't there is told, and what it checks is left out.

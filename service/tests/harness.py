@@ -12,6 +12,7 @@ sys.path.insert(0, str(SERVICE))
 
 TOLD_EVERY = 15.0  # seconds
 BUILT = SERVICE.parent / "crates" / "wumpus" / "out" / "wumpus"
+STAND_IN = SERVICE / "tests" / "stand_in"
 
 
 class Score:
@@ -68,7 +69,9 @@ def options(about: str) -> argparse.ArgumentParser:
     """Options that each test has."""
     parser = argparse.ArgumentParser(description=about)
     add = parser.add_argument
-    add("--program", type=absolute, default=str(BUILT), help="the program wumpus")
+    usual = BUILT if os.access(BUILT, os.X_OK) else STAND_IN
+    about_program = "the program wumpus; where none is built, the stand-in"
+    add("--program", type=absolute, default=str(usual), help=about_program)
     parser.add_argument("--seed", type=int, default=1)
     return parser
 
@@ -82,7 +85,9 @@ def needs_root(name: str) -> None:
 
 
 def needs_program(name: str, program: str) -> None:
-    """Ends a test where there is no program."""
+    """Ends a test where there is no program, and tells where the stand-in is to answer."""
+    if program == str(STAND_IN):
+        print(f"{name}: the stand-in answers, there is no program at {BUILT}", flush=True)
     if not os.access(program, os.X_OK):
         print(f"{name}: there is no program at {program}: make builds it")
         sys.exit(1)
