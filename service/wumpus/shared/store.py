@@ -17,6 +17,7 @@ STORE = "wumpus-store"
 ASIDE = "wumpus-store.old"
 ASK = "ask"
 CONTROL = "control"
+ROOM_LEFT = 4 << 30  # bytes, or a tenth of the disk: what can wait leaves them free
 
 
 class Failed(Exception):
@@ -47,6 +48,16 @@ def only_program(folder: Path) -> contextlib.AbstractContextManager[None]:
     """Held by whoever runs the program over the store of a folder, which has to be her own."""
     check_own(folder)
     return only_one(folder / "program.lock", "another program, perhaps that of a service,")
+
+
+def room_left(folder: Path) -> int:
+    """How many bytes the disk of a folder has beside those that are kept free; negative: none.
+
+    Rights that are taken away need little, and must never wait for room. Raises `OSError`.
+    """
+    disk = os.statvfs(folder)
+    kept = min(ROOM_LEFT, disk.f_blocks * disk.f_frsize // 10)
+    return disk.f_bavail * disk.f_frsize - kept
 
 
 def move_aside(folder: Path) -> None:
