@@ -9,6 +9,7 @@ import os
 import selectors
 import signal
 import subprocess
+import time
 from collections import deque
 from pathlib import Path
 from typing import IO
@@ -16,12 +17,18 @@ from typing import IO
 from .script import lines_after
 
 PIECE = 1 << 16
+NO_MEMORY = 4  # the program's own status
+END_SECONDS = 0.5  # from the end of its output to its own
 _PARENT_DEATH = 1  # PR_SET_PDEATHSIG
 _libc = ctypes.CDLL(None, use_errno=True)
 
 
 class Ended(Exception):
     """The program ended, or was killed; the text says how."""
+
+    def __init__(self, text: str, for_memory: bool = False) -> None:
+        super().__init__(text)
+        self.for_memory = for_memory  # it had none, or the kernel killed it
 
 
 class Refused(Exception):
@@ -49,9 +56,8 @@ class Program:
             preexec_fn=die_with_parent,
             umask=0o077,
         )
-        assert self.child.stdin is not None and self.child.stdout is not None
-        self.input = self.child.stdin.fileno()
-        self.output = self.child.stdout.fileno()
+        self.input = _descriptor(self.child.stdin)
+        self.output = _descriptor(self.child.stdout)
         os.set_blocking(self.input, False)
         os.set_blocking(self.output, False)
 
@@ -70,7 +76,7 @@ class Program:
             except BlockingIOError:
                 break
             except BrokenPipeError as error:
-                raise Ended(self.how()) from error
+                raise self.how() from error
             written += count
             if count == len(first):
                 self.waiting.popleft()
@@ -85,7 +91,7 @@ class Program:
         except BlockingIOError:
             return []
         if not data:
-            raise Ended(self.how())
+            raise self.how()
         self.begun += data
         if b"\n" not in data:
             return []
@@ -93,13 +99,38 @@ class Program:
         self.begun = bytearray(lines.pop())
         return lines
 
-    def how(self) -> str:
-        """How the program ended, in words."""
-        self.child.kill()
-        status = self.child.wait()
+    def how(self) -> Ended:
+        """How the program ended, which closed its output. One that goes on all the same is killed.
+
+        A signal 9 of which this process knows nothing is the kernel's, which is short of memory.
+        """
+        try:
+            status = self.child.wait(END_SECONDS)
+        except subprocess.TimeoutExpired:
+            self.child.kill()
+            self.child.wait()
+            return Ended("the program closed its output")
         if status < 0:
-            return f"the program was ended by signal {-status}"
-        return f"the program ended with status {status}"
+            told = f"the program was ended by signal {-status}"
+            return Ended(told, -status == signal.SIGKILL)
+        return Ended(f"the program ended with status {status}", status == NO_MEMORY)
+
+    def spent(self) -> float:
+        """Seconds of the processor that it has taken; 0 where it has ended."""
+        # The kernel's number for the clock of another process, of all its threads.
+        clock = (~self.child.pid << 3) | 2
+        try:
+            return time.clock_gettime(clock)
+        except OSError:
+            return 0.0
+
+    def memory(self) -> int:
+        """Bytes of memory that it has; 0 where it has ended."""
+        try:
+            told = Path(f"/proc/{self.child.pid}/statm").read_text(encoding="ascii").split()
+        except OSError:
+            return 0
+        return int(told[1]) * os.sysconf("SC_PAGE_SIZE") if len(told) > 1 else 0
 
     def kill(self) -> None:
         """Ends the program at once; nothing more is saved."""
@@ -109,9 +140,9 @@ class Program:
 
     def finish(self, seconds: float) -> int:
         """Ends the input, which saves, and waits for the end: the status."""
-        assert self.child.stdin is not None
-        self.child.stdin.close()
         try:
+            if self.child.stdin is not None:
+                self.child.stdin.close()
             return self.child.wait(seconds)
         except subprocess.TimeoutExpired:
             self.child.kill()
@@ -126,6 +157,12 @@ class Program:
                     pipe.close()
                 except BrokenPipeError:
                     pass
+
+
+def _descriptor(pipe: IO[bytes] | None) -> int:
+    if pipe is None:
+        raise ValueError("a pipe to the program wasn't asked for")
+    return pipe.fileno()
 
 
 class Talk:
