@@ -16,6 +16,9 @@ SERVICE_TESTS := \
 	client \
 	limits \
 	service \
+	requests \
+	fair \
+	allow \
 	neighbours \
 	kernel \
 	race

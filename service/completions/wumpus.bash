@@ -7,7 +7,15 @@ _wumpus_options() {
         mapfile -t COMPREPLY < <(compgen -d -- "$current")
         return
         ;;
-    --program | --mirror | --users)
+    --group)
+        mapfile -t COMPREPLY < <(compgen -g -- "$current")
+        return
+        ;;
+    --mirror-user)
+        mapfile -t COMPREPLY < <(compgen -u -- "$current")
+        return
+        ;;
+    --program | --mirror | --users | --subuid)
         mapfile -t COMPREPLY < <(compgen -f -- "$current")
         return
         ;;
@@ -31,8 +39,9 @@ _wumpus_mirror() {
 }
 
 _wumpusd() {
-    _wumpus_options "--folder --program --sockets --mirror --query-seconds --idle-seconds
-        --age-seconds --connections --connections-of-user --reply-bytes --version --help" f
+    _wumpus_options "--folder --program --sockets --mirror --mirror-user --group --mode --allow
+        --refuse-root --subuid --stale --query-seconds --idle-seconds --age-seconds --connections
+        --connections-of-user --reply-bytes --version --help" f
 }
 
 _wumpus_ask() {

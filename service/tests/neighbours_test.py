@@ -192,17 +192,14 @@ def of_service(served: Served, score: Score) -> None:
     score.check(told == b"count\t1\t1", f"where all connections are taken: {told!r}")
     for child in children:
         os.waitpid(child, 0)
-    replies = []
-    for _ in range(2):
-        kill_program(served, signal.SIGSTOP)
-        timer = threading.Timer(0.3, lambda: kill_program(served))
-        timer.start()
-        replies.append(served.ask(BOB, COUNT))
-        timer.join()
-        replies.append(served.ask(ANN, COUNT))
-    replies.append(served.ask(BOB, COUNT))
-    due = [b"refused\tstopped", b"count\t1\t1"] * 2 + [b"refused\ttooslow"]
-    score.check(replies == due, f"a user in whose queries the program ends: {replies}")
+    kill_program(served, signal.SIGSTOP)
+    timer = threading.Timer(0.3, lambda: kill_program(served))
+    timer.start()
+    replies = [served.ask(BOB, COUNT)]
+    timer.join()
+    replies += [served.ask(user, COUNT) for user in (ANN, BOB)]
+    due = [b"refused\tstopped", b"count\t1\t1", b"refused\ttooslow"]
+    score.check(replies == due, f"a user in whose query the program is killed: {replies}")
     score.check(served.end(signal.SIGTERM) == 0, "a clean end")
     os.chown(served.sockets, 1001, 1001)
     words = ["--folder", str(served.store), "--sockets", str(served.sockets)]

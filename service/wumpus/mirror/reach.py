@@ -2,8 +2,9 @@
 
 The control socket of the service takes lines with TABs between their fields, and answers each with
 one: `ask LINE` passes a line to the program and answers `reply LINE`; `batch DUE`, which brings a
-file, feeds it whole; `reset` moves the store aside; `done` tells that a turn is over. `ok` is the
-answer to the last three, or `failed WHY`.
+file, feeds it whole; `reset` moves the store aside; `fed MOMENT` tells when the walk began whose
+names and rights the program has; `done` tells that a turn is over. `ok` is the answer to the last
+four, or `failed WHY`.
 """
 
 import contextlib
@@ -39,6 +40,9 @@ class Reach(Protocol):
 
     def reset(self) -> None:
         """Moves the store aside: the program begins with an empty one."""
+
+    def fed(self, began: int) -> None:
+        """The program has the names and rights of the walk that began at this moment."""
 
     def done(self) -> None:
         """A turn is over."""
@@ -89,6 +93,9 @@ class Direct:
         self._stop()
         move_aside(self.folder)
         self._start()
+
+    def fed(self, began: int) -> None:
+        """Nobody asks meanwhile."""
 
     def done(self) -> None:
         """Merges the parts of the index until there is nothing to do; the end saves that."""
@@ -171,6 +178,11 @@ class Served:
     def reset(self) -> None:
         """Has the store moved aside."""
         self._send(b"reset\n")
+        self._expect()
+
+    def fed(self, began: int) -> None:
+        """Tells when the walk began that was fed."""
+        self._send(b"fed\t%d\n" % began)
         self._expect()
 
     def done(self) -> None:

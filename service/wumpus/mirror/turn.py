@@ -7,6 +7,7 @@ from dataclasses import dataclass, field
 from pathlib import Path
 from typing import BinaryIO
 
+from ..shared.clock import moment
 from ..shared.progress import Progress
 from ..shared.script import spell
 from ..shared.store import Failed
@@ -281,12 +282,14 @@ class Mirror:
             self.state.forget_directories()
         turn = Turn(wish, self.state, self.progress, self.folder)
         self.progress.next_turn()
+        began = moment()
         walk = turn.walk()
         tree = turn.target(walk)
         looker = Looker(self.progress.warn, wish.limits.access)
         places = places_of(walk.top)
         try:
             more = self._first(turn, tree, looker, places)
+            self.reach.fed(began)
             while more:
                 more = self._next(turn, looker, places)
         finally:

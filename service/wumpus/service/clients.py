@@ -4,6 +4,7 @@ A client has one query under way at a time, and is read from only while none of 
 waits to be sent. What she sends is bounded by a line, and what waits for her by a reply.
 """
 
+import collections
 import selectors
 import socket
 import time
@@ -11,9 +12,12 @@ from collections.abc import Callable
 from dataclasses import dataclass, field
 
 from ..shared import queries
-from ..shared.peers import NOBODY, Peer, peer_of
+from ..shared.clock import moment
+from ..shared.peers import NOBODY, Peer
 from ..shared.program import PIECE
 from ..shared.script import spell_user
+from .accepting import Accepting
+from .allowed import Allowed
 
 
 @dataclass(frozen=True)
@@ -24,12 +28,11 @@ class Bounds:
     connections_of_user: int = 16
     reply: int = 16 << 20
     waiting: int = 64 << 20  # of all replies that clients haven't read
-    query_seconds: float = 10.0
+    query_seconds: float = 2.0  # of the processor; by the clock twice as many
     batch_seconds: float = 3600.0
     idle_seconds: float = 60.0
     age_seconds: float = 600.0
-    punished_seconds: float = 60.0
-    suspected_seconds: float = 600.0
+    stale_seconds: float = 900.0  # 0: never
     faults: int = 16  # lines of one connection that weren't asked
 
 
@@ -39,7 +42,8 @@ class Client:
 
     socket: socket.socket
     peer: Peer
-    since: float
+    person: int  # the account that its user counts as
+    since: int  # milliseconds since the machine began
     moved: float  # when a byte came or went
     received: bytearray = field(default_factory=bytearray)
     sending: bytearray = field(default_factory=bytearray)
@@ -57,69 +61,86 @@ class Query:
     line: bytes
     since: float
 
+    @property
+    def person(self) -> int:
+        """The account that pays for it."""
+        return self.client.person
+
+    @property
+    def user(self) -> int:
+        """The user as whom it is asked."""
+        return self.client.peer.user
+
 
 class Clients:
-    """All of them. `put` takes each query; `answer` gives its reply."""
+    """All of them. `put` takes each query; `answer` gives its reply.
+
+    `refusal` says why no query of a person is to be asked, and `person` whose a number is.
+    """
 
     def __init__(
         self,
         listening: socket.socket,
         selector: selectors.BaseSelector,
         bounds: Bounds,
+        allowed: Allowed,
+        person: Callable[[int], int],
+        refusal: Callable[[int], bytes],
         put: Callable[[Query], None],
     ) -> None:
-        self.listening = listening
         self.selector = selector
         self.bounds = bounds
+        self.allowed = allowed
+        self.person = person
+        self.refusal = refusal
         self.put = put
         self.all: dict[int, Client] = {}
-        self.punished: dict[int, float] = {}  # users, and until when
-        self.suspected: dict[int, float] = {}  # in their queries the program ended
-        self.are_answered = False  # from the end of the mirror's first turn on
-        listening.setblocking(False)
-        selector.register(listening, selectors.EVENT_READ, self._accept)
+        self.of_person: collections.Counter[int] = collections.Counter()
+        self.refused: collections.Counter[str] = collections.Counter()  # by the word
+        self.answered = 0
+        self.accepting = Accepting(listening, selector, self._take, self._spare)
 
-    def _accept(self, _: int) -> None:
-        try:
-            connection, _address = self.listening.accept()
-        except OSError:
-            return
-        try:
-            peer = peer_of(connection)
-        except OSError:
-            connection.close()
-            return
-        if len(self.all) >= self.bounds.connections:
-            self._make_room()
-        refusal = self._refusal(peer)
-        connection.setblocking(False)
-        now = time.monotonic()
-        client = Client(connection, peer, now, now)
+    def _take(self, connection: socket.socket, peer: Peer) -> None:
+        person = self.person(peer.user)
+        refusal = self._refusal_of_peer(peer, person)
+        if not refusal and len(self.all) >= self.bounds.connections:
+            self._make_room(person)
+            if len(self.all) >= self.bounds.connections:
+                refusal = queries.TOO_MANY
+        client = Client(connection, peer, person, moment(), time.monotonic())
         self.all[connection.fileno()] = client
+        self.of_person[person] += 1
         if refusal:
             client.ending = True
-            client.sending += refusal
+            self._say(client, refusal)
         self._go_on(client)
 
-    def _make_room(self) -> None:
-        """Ends the oldest connection for which nothing is asked.
-
-        Numbers cost a user nothing who has a range of them (subuid), so they bound no user alone.
-        """
-        silent = [one for one in self.all.values() if not one.asking]
-        if silent:
-            self.close(min(silent, key=lambda one: one.since))
-
-    def _refusal(self, peer: Peer) -> bytes:
+    def _refusal_of_peer(self, peer: Peer, person: int) -> bytes:
         """Why nothing is answered on a new connection; empty where something is."""
         if peer.user == NOBODY:
             return queries.NOBODY
+        if not self.allowed.allows(peer.user):
+            return queries.NOT_ALLOWED
         if spell_user(peer.user, peer.groups) is None:
             return queries.MANY_GROUPS
-        of_user = sum(one.peer.user == peer.user for one in self.all.values())
-        if of_user >= self.bounds.connections_of_user:
+        if self.of_person[person] >= self.bounds.connections_of_user:
             return queries.TOO_MANY
-        return queries.TOO_MANY if len(self.all) >= self.bounds.connections else b""
+        return b""
+
+    def _make_room(self, person: int) -> None:
+        """Ends a connection of who has most of them, for one more of a person who has fewer."""
+        most = max(self.of_person.values(), default=0)
+        if self.of_person[person] < most:
+            self._end_one_of({one for one, count in self.of_person.items() if count == most})
+
+    def _spare(self) -> None:
+        """Ends a connection where the system has no descriptor left."""
+        self._make_room(-1)
+
+    def _end_one_of(self, persons: set[int]) -> None:
+        """Ends one connection of these persons: a silent one, of them the oldest."""
+        theirs = [one for one in self.all.values() if one.person in persons]
+        self.close(min(theirs, key=lambda one: (one.asking, one.since)))
 
     def _ready(self, descriptor: int) -> None:
         client = self.all.get(descriptor)
@@ -144,6 +165,10 @@ class Clients:
         client.moved = time.monotonic()
         client.received += data
 
+    def is_old(self, client: Client) -> bool:
+        """Whether what is known of a client's groups is too long ago."""
+        return moment() - client.since > self.bounds.age_seconds * 1000
+
     def _go_on(self, client: Client) -> None:
         """Sends what waits, and then takes the next query that came whole; one at a time.
 
@@ -151,13 +176,13 @@ class Clients:
         """
         self._flush(client)
         while not (client.asking or client.sending or client.ending or client.ended):
-            if time.monotonic() - client.since > self.bounds.age_seconds:
+            if self.is_old(client):
                 self.close(client)
                 return
             line, found, rest = client.received.partition(b"\n")
             if len(line) > queries.QUERY_MAX:
                 client.ending = True
-                client.sending += queries.LONG_LINE
+                self._say(client, queries.LONG_LINE)
             elif not found:
                 break
             else:
@@ -167,38 +192,50 @@ class Clients:
         self._watch(client)
 
     def _queue(self, client: Client, asked: bytes) -> None:
-        """Queues a query, or says why not."""
-        user = client.peer.user
-        line = queries.line_for(user, asked)
-        if line is None:
-            self._refuse(client, queries.NOT_A_QUERY)
-        elif not self.are_answered:
-            self._refuse(client, queries.NOT_READY)
-        elif self.punished.get(user, 0.0) > time.monotonic():
-            self._refuse(client, queries.TOO_SLOW)
-        else:
+        """Queues a query, or says why not; after some refusals the connection ends."""
+        line = queries.line_for(client.peer.user, asked)
+        refusal = queries.NOT_A_QUERY if line is None else self.refusal(client.person)
+        if line is not None and not refusal:
             client.asking = True
-            query = Query(client, line, time.monotonic())
-            self.put(query)
-
-    def _refuse(self, client: Client, refusal: bytes) -> None:
-        """Says why a line isn't asked; after some of them the connection ends."""
-        client.sending += refusal
+            self.put(Query(client, line, time.monotonic()))
+            return
         client.faults += 1
         client.ending = client.faults >= self.bounds.faults
+        self._say(client, refusal)
+
+    def _say(self, client: Client, refusal: bytes) -> None:
+        """Sends one of the service's own refusals."""
+        client.sending += refusal
+        self._count(refusal)
+
+    def _count(self, reply: bytes) -> None:
+        """Counts a reply by its kind."""
+        if reply.startswith(b"refused\t"):
+            self.refused[reply[8:40].partition(b"\n")[0].decode("ascii", "replace")] += 1
+        else:
+            self.answered += 1
 
     def answer(self, client: Client, reply: bytes) -> None:
         """Sends a client its reply, and then takes its next query."""
         client.asking = False
         if client.ended:
             return
+        self._count(reply)
         client.sending += reply
         client.moved = time.monotonic()
         self._go_on(client)
         if client.sending:
-            waiting = sum(len(one.sending) for one in self.all.values())
-            if waiting > self.bounds.waiting:
-                self.close(max(self.all.values(), key=lambda one: len(one.sending)))
+            self._bound_waiting()
+
+    def _bound_waiting(self) -> None:
+        """Where too much waits to be read, the person who reads least loses her largest reply."""
+        waiting: collections.Counter[int] = collections.Counter()
+        for one in self.all.values():
+            waiting[one.person] += len(one.sending)
+        if waiting.total() > self.bounds.waiting:
+            person, _ = waiting.most_common(1)[0]
+            theirs = [one for one in self.all.values() if one.person == person]
+            self.close(max(theirs, key=lambda one: len(one.sending)))
 
     def _flush(self, client: Client) -> None:
         """Sends what the connection takes."""
@@ -239,28 +276,19 @@ class Clients:
         if descriptor in self.selector.get_map():
             self.selector.unregister(client.socket)
         del self.all[descriptor]
+        self.of_person[client.person] -= 1
+        if not self.of_person[client.person]:
+            del self.of_person[client.person]
         client.socket.close()
 
-    def suspect(self, user: int) -> None:
-        """The program ended in the midst of a query of this user: the second time she waits."""
-        now = time.monotonic()
-        if self.suspected.get(user, -1.0) > now:
-            self.punish(user)
-        self.suspected[user] = now + self.bounds.suspected_seconds
-
-    def punish(self, user: int) -> None:
-        """Has no query of this user answered for a while."""
-        self.punished[user] = time.monotonic() + self.bounds.punished_seconds
-
     def look_at_clock(self) -> None:
-        """Ends the connections that are silent, or too old."""
+        """Ends the connections that are silent, or too old, and takes new ones again."""
         now = time.monotonic()
         for client in list(self.all.values()):
             idle = now - client.moved > self.bounds.idle_seconds and not client.asking
-            if idle or (now - client.since > self.bounds.age_seconds and not client.asking):
+            if idle or (self.is_old(client) and not client.asking):
                 self.close(client)
-        for user in [one for one, until in self.punished.items() if until < now]:
-            del self.punished[user]
+        self.accepting.go_on()
 
     def end(self) -> None:
         """Ends all connections."""

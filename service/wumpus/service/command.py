@@ -2,73 +2,26 @@
 
 import argparse
 import os
+import resource
 import signal
-import socket
 import subprocess
 import sys
 import time
+import traceback
 from pathlib import Path
 from types import FrameType
 
-from .. import VERSION
+from ..shared.accounts import system_account
+from ..shared.notify import notify
 from ..shared.program import Program, die_with_parent
-from ..shared.store import ASK, CONTROL, FOLDER, SOCKETS, Failed, check_own, only_program
-from .clients import Bounds
-from .loop import Service
+from ..shared.store import ASK, CONTROL, Failed, check_own, only_program
+from .loop import Places, Service
+from .options import allowed_of, bounds_of, mode_of, parser
+from .persons import Persons
+from .sockets import group_number, listening, listening_for
+from .status import Reports
 
-
-def parser() -> argparse.ArgumentParser:
-    """The options."""
-    bounds = Bounds()
-    options = argparse.ArgumentParser(
-        prog="wumpusd",
-        description="Holds one Wumpus and answers its users on a socket.",
-        allow_abbrev=False,
-    )
-    add = options.add_argument
-    add("--folder", default=FOLDER, metavar="DIR", help=f"the folder of the store ({FOLDER})")
-    add("--program", default="wumpus", metavar="PATH", help="the program (wumpus)")
-    add("--sockets", default=SOCKETS, metavar="DIR", help=f"where its sockets are ({SOCKETS})")
-    add("--mirror", metavar="PATH", help="run this mirror too, with the words after --")
-    add("--query-seconds", type=float, default=bounds.query_seconds, metavar="SECONDS",
-        help="how long a query may take")  # fmt: skip
-    add("--idle-seconds", type=float, default=bounds.idle_seconds, metavar="SECONDS",
-        help="how long a connection may be silent")  # fmt: skip
-    add("--age-seconds", type=float, default=bounds.age_seconds, metavar="SECONDS",
-        help="how old a connection, and what is known of its groups, may be")  # fmt: skip
-    add("--connections", type=int, default=bounds.connections, metavar="N", help="in all")
-    add("--connections-of-user", type=int, default=bounds.connections_of_user, metavar="N",
-        help="of one user")  # fmt: skip
-    add("--reply-bytes", type=int, default=bounds.reply, metavar="N", help="of one reply")
-    add("--version", action="version", version=f"wumpusd {VERSION}")
-    add("words", nargs="*", metavar="WORD", help="for the mirror: options and roots")
-    return options
-
-
-def bounds_of(given: argparse.Namespace) -> Bounds:
-    """The limits that the options set."""
-    return Bounds(
-        connections=given.connections,
-        connections_of_user=given.connections_of_user,
-        reply=given.reply_bytes,
-        query_seconds=given.query_seconds,
-        idle_seconds=given.idle_seconds,
-        age_seconds=given.age_seconds,
-    )
-
-
-def listening(path: Path, mode: int) -> socket.socket:
-    """A socket that listens there; one that a service left behind goes."""
-    path.unlink(missing_ok=True)
-    found = socket.socket(socket.AF_UNIX, socket.SOCK_STREAM)
-    before = os.umask(0o177)
-    try:
-        found.bind(str(path))
-    finally:
-        os.umask(before)
-    os.chmod(path, mode)
-    found.listen(128)
-    return found
+OTHER_DESCRIPTORS = 64  # beside those of users' connections
 
 
 def log(text: str) -> None:
@@ -93,7 +46,10 @@ class Mirrors:
             return
         if self.child is None or self.child.poll() is not None:
             self.begun = time.monotonic()
-            self.child = subprocess.Popen(self.words, preexec_fn=die_with_parent)
+            try:
+                self.child = subprocess.Popen(self.words, preexec_fn=die_with_parent)
+            except OSError as error:
+                log(f"the mirror can't be started: {error}")
 
     def end(self) -> None:
         """Ends it."""
@@ -103,41 +59,91 @@ class Mirrors:
 
 
 def main() -> int:
-    """Runs the command line: 0 after SIGTERM or SIGINT, 1 where the program failed at its end."""
+    """Runs the command line: 0 after SIGTERM or SIGINT, 1 where the program failed at its end.
+
+    2 is for whatever else ended it.
+    """
     given = parser().parse_args()
     try:
         with only_program(Path(given.folder)):
             return serve(given)
     except (Failed, OSError) as error:
         log(str(error))
-        return 2
+    except Exception as error:
+        where = traceback.extract_tb(error.__traceback__)[-1]
+        place = f"{Path(where.filename).name}:{where.lineno}"
+        log(f"a fault of its own at {place}: {type(error).__name__}: {error}")
+    return 2
 
 
 def serve(given: argparse.Namespace) -> int:
-    """What `main` does, while nobody else runs the program: the exit status. Raises `OSError`."""
+    """What `main` does, while nobody else runs the program: the exit status.
+
+    Raises `Failed`, and `OSError`.
+    """
     folder, sockets = Path(given.folder), Path(given.sockets)
     check_own(sockets)
+    have_descriptors(given.connections)
     mirrors = Mirrors(given)
-    ask = listening(sockets / ASK, 0o666)
-    control = listening(sockets / CONTROL, 0o600)
-    service = Service(
-        lambda: Program(given.program, folder),
+    reports = Reports(folder, log)
+    persons = Persons(log, Path(given.subuid))
+    persons.look()
+
+    def tick(service: Service) -> None:
+        mirrors.look()
+        reports.look(service)
+
+    try:
+        service = Service(
+            lambda: Program(given.program, folder),
+            places_of(given, folder, sockets),
+            bounds_of(given),
+            persons,
+            log,
+            tick,
+        )
+        return run(service, reports)
+    finally:
+        mirrors.end()
+        for name in (ASK, CONTROL):
+            (sockets / name).unlink(missing_ok=True)
+
+
+def places_of(given: argparse.Namespace, folder: Path, sockets: Path) -> Places:
+    """The folder and the sockets, which listen from here on. Raises `Failed`, and `OSError`."""
+    group = -1 if given.group is None else group_number(given.group)
+    mirror = None if given.mirror_user is None else system_account(given.mirror_user)
+    others = () if mirror is None else (mirror,)
+    return Places(
         folder,
-        ask,
-        control,
-        bounds_of(given),
-        log,
-        mirrors.look,
+        listening(sockets / ASK, mode_of(given), group),
+        listening_for(sockets / CONTROL, mirror),
+        allowed_of(given),
+        frozenset([0, os.geteuid(), *others]),
     )
+
+
+def have_descriptors(connections: int) -> None:
+    """Has room for so many connections. Raises `Failed` where the system gives less."""
+    soft, hard = resource.getrlimit(resource.RLIMIT_NOFILE)
+    wanted = connections + OTHER_DESCRIPTORS
+    if soft != resource.RLIM_INFINITY and soft < wanted:
+        if hard != resource.RLIM_INFINITY and hard < wanted:
+            raise Failed(f"{connections} connections are more than the {hard} descriptors here")
+        resource.setrlimit(resource.RLIMIT_NOFILE, (wanted, hard))
+
+
+def run(service: Service, reports: Reports) -> int:
+    """Answers until a signal: the exit status."""
 
     def stop(_number: int, _frame: FrameType | None) -> None:
         service.stop()
 
     signal.signal(signal.SIGTERM, stop)
     signal.signal(signal.SIGINT, stop)
+    notify(b"READY=1")
     try:
         return service.run()
     finally:
-        mirrors.end()
-        for name in (ASK, CONTROL):
-            (sockets / name).unlink(missing_ok=True)
+        notify(b"STOPPING=1")
+        reports.write(service)

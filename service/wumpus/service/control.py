@@ -6,53 +6,73 @@ import socket
 from collections.abc import Callable
 from dataclasses import dataclass, field
 
-from ..shared.peers import peer_of
+from ..shared.peers import Peer
 from ..shared.program import PIECE
+from ..shared.script import LINE_MAX
+from .accepting import Accepting
 
-RESET = b"reset\n"
+AT_MOST = 8  # mirrors, and files of one that wait
+WAITING_MAX = 4 * LINE_MAX  # bytes of lines that wait; a line of the language, escaped, is two
 
 
 @dataclass(slots=True)
 class Control:
-    """The connection of a mirror."""
+    """The connection of a mirror: its lines that wait, and the files of those that are batches."""
 
     socket: socket.socket
     received: bytearray = field(default_factory=bytearray)
     files: list[int] = field(default_factory=list)
 
+    def next_line(self) -> list[bytes] | None:
+        """The fields of the line that waits first, or None where none is whole."""
+        line, found, _ = self.received.partition(b"\n")
+        return bytes(line).split(b"\t") if found else None
+
+    def take_line(self) -> int | None:
+        """Takes the line that waits first; gives the file of a batch, which is then the caller's.
+
+        A file that came with another line goes with the last line that waits.
+        """
+        line, _, self.received = self.received.partition(b"\n")
+        file = None
+        if line.partition(b"\t")[0] == b"batch" and self.files:
+            file = self.files.pop(0)
+        if not self.received:
+            self.drop_files()
+        return file
+
+    def drop_lines(self) -> None:
+        """Forgets all that waits."""
+        self.received.clear()
+        self.drop_files()
+
+    def drop_files(self) -> None:
+        """Closes the files that wait."""
+        for file in self.files:
+            os.close(file)
+        self.files = []
+
 
 class Controls:
-    """All of them. `reset` is done at once, and `forget` is told of one that is gone."""
+    """All of them. `owners` are the users who may be a mirror; no others are heard."""
 
     def __init__(
         self,
         listening: socket.socket,
         selector: selectors.BaseSelector,
-        reset: Callable[[Control], None],
-        forget: Callable[[Control], None],
+        owners: frozenset[int],
+        log: Callable[[str], None],
     ) -> None:
-        self.listening = listening
         self.selector = selector
-        self.reset = reset
-        self.forget = forget
+        self.owners = owners
+        self.log = log
         self.all: dict[int, Control] = {}
-        listening.setblocking(False)
-        selector.register(listening, selectors.EVENT_READ, self._accept)
+        self.accepting = Accepting(listening, selector, self._take, lambda: None)
 
-    def _accept(self, _: int) -> None:
-        """Takes a connection of user 0, or of the service's own user."""
-        try:
-            connection, _address = self.listening.accept()
-        except OSError:
-            return
-        try:
-            allowed = peer_of(connection).user in (0, os.geteuid())
-        except OSError:
-            allowed = False
-        if not allowed:
+    def _take(self, connection: socket.socket, peer: Peer) -> None:
+        if peer.user not in self.owners or len(self.all) >= AT_MOST:
             connection.close()
             return
-        connection.setblocking(False)
         self.all[connection.fileno()] = Control(connection)
         self.selector.register(connection, selectors.EVENT_READ, self._ready)
 
@@ -61,37 +81,40 @@ class Controls:
         if control is None:
             return
         try:
-            data, files, _, _ = socket.recv_fds(control.socket, PIECE, 4)
+            flags = socket.MSG_CMSG_CLOEXEC
+            data, files, _, _ = socket.recv_fds(control.socket, PIECE, AT_MOST, flags)
         except BlockingIOError:
             return
         except OSError:
             data, files = b"", []
         control.files += files
         control.received += data
-        if control.received == RESET:
-            control.received.clear()
-            self.reset(control)
+        if len(control.files) > AT_MOST or len(control.received) > WAITING_MAX:
+            self.log("a mirror sent more than it may, and is cut off")
+            data = b""
         if not data:
             self.close(control)
 
     def tell(self, control: Control, answer: bytes) -> None:
-        """Answers a mirror, if it is still there."""
+        """Answers a mirror, if it is still there. One that reads no answers is cut off."""
+        if control.socket.fileno() not in self.all:
+            return
         try:
-            control.socket.sendall(answer)
+            if control.socket.send(answer) == len(answer):
+                return
         except OSError:
-            self.close(control)
+            pass
+        self.close(control)
 
     def close(self, control: Control) -> None:
-        """Ends a connection."""
+        """Ends a connection, and what it waits for. A batch under way has its file, and goes on."""
         descriptor = control.socket.fileno()
+        if self.all.pop(descriptor, None) is None:
+            return
         if descriptor in self.selector.get_map():
             self.selector.unregister(control.socket)
-        self.all.pop(descriptor, None)
-        for file in control.files:
-            os.close(file)
-        control.files = []
+        control.drop_lines()
         control.socket.close()
-        self.forget(control)
 
     def end(self) -> None:
         """Ends all connections."""

@@ -1,4 +1,9 @@
-"""Whose query is next: one of each user in turn, and dear ones so that others get on as well.
+"""Whose query is next: that of the person for whom the program worked least.
+
+The program's seconds count, not queries. Each person has a clock that goes on while the program
+works for her, and of those who wait the one whose clock shows least is next. Who comes after a
+while begins where the one who is being answered began: she pays for nothing that others took, and
+has saved up nothing.
 
 The program keeps which files it may show to the users who asked last. For another user it finds
 that out anew, which is dear; where many users ask, such queries get half of the time.
@@ -6,59 +11,95 @@ that out anew, which is dear; where many users ask, such queries get half of the
 
 import collections
 import time
+from collections.abc import Callable
 
 from .clients import Query
 
 KEPT = 15  # the program keeps which files it may show to so many users who asked last
 PATIENCE = 0.25  # seconds in which users of whom it keeps that go before others
+OF_SERVICE = 0.0002  # seconds that the service itself takes for a query
+CLOCKS = 10_000  # persons whose clocks are kept
+PRUNED = 0.75  # of them, where they are more
 
 
 class Turns:
-    """The queries that wait, those of each user in the order in which they came."""
+    """The queries that wait, those of each person in the order in which they came."""
 
-    def __init__(self) -> None:
-        self.queues: collections.OrderedDict[int, collections.deque[Query]] = (
-            collections.OrderedDict()
-        )
+    def __init__(self, clock: Callable[[], float] = time.monotonic) -> None:
+        self.clock = clock
+        self.queues: dict[int, collections.deque[Query]] = {}
+        self.used: dict[int, float] = {}  # the clock of each person, in seconds
+        self.begun = 0.0  # what the clock showed of the last one who was taken
         self.recent: collections.deque[int] = collections.deque(maxlen=KEPT)
         self.is_dear = False  # the query under way, of a user of whom nothing is kept
         self.dear_spent = 0.0  # seconds of the last dear query
         self.cheap_spent = 0.0  # seconds of the queries after it
 
     def put(self, query: Query) -> None:
-        """Puts a query behind those of the same user."""
-        self.queues.setdefault(query.client.peer.user, collections.deque()).append(query)
+        """Puts a query behind those of the same person."""
+        person = query.person
+        if person not in self.queues:
+            self.used[person] = max(self.used.get(person, 0.0), self.begun)
+            self.queues[person] = collections.deque()
+        self.queues[person].append(query)
+
+    def __len__(self) -> int:
+        return sum(len(queue) for queue in self.queues.values())
+
+    def is_empty(self) -> bool:
+        """Whether none waits."""
+        return not self.queues
 
     def take(self) -> Query | None:
         """The next query, or None where none waits. Those of clients who are gone are left out."""
         while self.queues:
-            user = self._whose_turn()
-            queue = self.queues.pop(user)
+            person = self._whose_turn()
+            queue = self.queues[person]
             query = queue.popleft()
-            if queue:
-                self.queues[user] = queue
+            if not queue:
+                del self.queues[person]
             if not query.client.ended:
-                self._note(user)
+                self.begun = max(self.begun, self.used[person])
                 return query
         return None
 
-    def _note(self, user: int) -> None:
-        """A query of this user is under way."""
-        self.is_dear = user not in self.recent
+    def note(self, user: int) -> None:
+        """A query of this user is given to the program."""
+        self.is_dear = not self.is_kept(user)
         if not self.is_dear:
             self.recent.remove(user)
         self.recent.append(user)
 
+    def is_kept(self, user: int) -> bool:
+        """Whether the program may know already which files it may show to this user."""
+        return user in self.recent
+
+    def forget(self) -> None:
+        """The program began anew, and keeps nothing."""
+        self.recent.clear()
+
     def _whose_turn(self) -> int:
-        """The user who is answered next: the first one, unless it is dear and may wait.
+        """The person who is answered next: of those who are dear, the first one unless it may wait.
 
         Between two dear queries the others get as much time as the first of them took.
         """
-        first, queue = next(iter(self.queues.items()))
-        late = time.monotonic() - queue[0].since > PATIENCE
-        if first in self.recent or (late and self.cheap_spent >= self.dear_spent):
+        first = min(self.queues, key=self._place)
+        query = self.queues[first][0]
+        late = self.clock() - query.since > PATIENCE
+        if self.is_kept(query.user) or (late and self.cheap_spent >= self.dear_spent):
             return first
-        return next((user for user in self.queues if user in self.recent), first)
+        kept = [one for one, queue in self.queues.items() if self.is_kept(queue[0].user)]
+        return min(kept, key=self._place) if kept else first
+
+    def _place(self, person: int) -> tuple[float, float]:
+        """The order of persons: by their clocks, and then by when their queries came."""
+        return self.used[person], self.queues[person][0].since
+
+    def charge(self, person: int, seconds: float) -> None:
+        """The program worked so long for a person."""
+        self.used[person] = self.used.get(person, self.begun) + seconds + OF_SERVICE
+        if len(self.used) > CLOCKS:
+            self._prune()
 
     def count_time(self, taken: float) -> None:
         """Counts the seconds that the query took that was just answered."""
@@ -66,3 +107,16 @@ class Turns:
             self.dear_spent, self.cheap_spent = taken, 0.0
         else:
             self.cheap_spent += taken
+
+    def _prune(self) -> None:
+        """Forgets clocks that show no more than a new one would, and then those that show least."""
+        ahead = sorted(
+            (
+                (shown, person)
+                for person, shown in self.used.items()
+                if shown > self.begun or person in self.queues
+            ),
+            reverse=True,
+        )[: int(CLOCKS * PRUNED)]
+        waiting = {person: self.used[person] for person in self.queues}
+        self.used = {person: shown for shown, person in ahead} | waiting
