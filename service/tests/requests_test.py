@@ -231,6 +231,7 @@ def beside_slow(served: Served, score: Score) -> None:
     hand = begin(served)
     thread, told = later(lambda: served.ask(BOB, SPIN))
     time.sleep(0.4)
+    score.check(hand.fed() == b"ok" and thread.is_alive(), "a walk is told at once")
     began = time.monotonic()
     hand.put([b"chmod\t9\t600"])
     hand.send(b"fed\t%d" % moment())

@@ -22,6 +22,7 @@ class Control:
     socket: socket.socket
     received: bytearray = field(default_factory=bytearray)
     files: list[int] = field(default_factory=list)
+    is_served: bool = False  # the program is at work for it
 
     def next_line(self) -> list[bytes] | None:
         """The fields of the line that waits first, or None where none is whole."""

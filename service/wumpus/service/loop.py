@@ -32,6 +32,7 @@ from .turns import Turns
 from .waits import Waits
 
 OK = b"ok\n"
+FOR_PROGRAM = (b"ask", b"batch")  # lines of a mirror for which the program has to be free
 TICK = 0.2  # seconds
 FIRST_AT_MOST = 4.0  # so many times its own seconds may a query have for an opening beside
 
@@ -94,29 +95,29 @@ class Service:
 
     def _next(self) -> None:
         """Gives the program something to do, if it has nothing."""
-        while self._next_reset() or (
-            self.engine.is_free()
-            and (self._next_control() or self._next_query() or self._next_work())
+        while self._next_control() or (
+            self.engine.is_free() and (self._next_query() or self._next_work())
         ):
             pass
 
-    def _next_reset(self) -> bool:
-        """Moves the store aside where a mirror wants it, also one that the program can't open."""
-        for control in list(self.controls.all.values()):
-            if control.next_line() == [b"reset"]:
-                control.take_line()
-                self._reset(control)
-                return True
-        return False
-
     def _next_control(self) -> bool:
-        """Does what a mirror asked for, if its line is whole."""
+        """Does what a mirror asked for, if its line is whole.
+
+        What isn't for the program is done at once. Otherwise each line would wait for another query
+        of those who want to hold the mirror up.
+        """
         for control in list(self.controls.all.values()):
             fields = control.next_line()
-            if fields is not None:
+            if fields is not None and self._can_do(control, fields):
                 self._do(control, fields, control.take_line())
                 return True
         return False
+
+    def _can_do(self, control: Control, fields: list[bytes]) -> bool:
+        """Whether a line can be done now: in its order, but a reset also beside what goes on."""
+        if fields == [b"reset"]:
+            return True
+        return not control.is_served and (fields[0] not in FOR_PROGRAM or self.engine.is_free())
 
     def _next_query(self) -> bool:
         """Asks the next query, or says why not."""
@@ -207,6 +208,8 @@ class Service:
         elif fields == [b"done"]:
             self.freshness.is_done = True
             self.controls.tell(control, OK)
+        elif fields == [b"reset"]:
+            self._reset(control)
         else:
             self._fail(control, "not understood")
 
@@ -221,11 +224,13 @@ class Service:
             return
 
         def ends(reply: bytes | Failure, _taken: float) -> None:
+            control.is_served = False
             if isinstance(reply, Failure):
                 self._fail(control, reply.why)
             else:
                 self.controls.tell(control, b"reply\t" + escape(reply) + b"\n")
 
+        control.is_served = True
         self.engine.give(Line(line + b"\n", ends))
 
     def _fed(self, control: Control, began: int | None) -> None:
@@ -244,6 +249,7 @@ class Service:
         due = _number(fields[1]) if len(fields) == 2 else None
 
         def ends(failure: Failure | None, _taken: float) -> None:
+            control.is_served = False
             if failure is None:
                 self.engine.is_well()
                 self.freshness.batch_went_in()
@@ -262,6 +268,7 @@ class Service:
             task.fail(Failure(Cause.OTHERS, "not understood"), 0.0)
             return
         self.groups.doubt()
+        control.is_served = True
         self.engine.give(task)
 
     def _batch_failed(self, control: Control, failure: Failure) -> None:
