@@ -24,7 +24,7 @@ REFUSALS = {
     b"stale": "the service hasn't looked at the files for too long, so nothing is answered",
     b"stale": "what the service knows of the files is too old to answer by: tell the administrator",
     b"notallowed": "you aren't among those who may search here",
-    b"tooslow": "this took too long: ask for something rarer, and wait a minute",
+    b"tooslow": "this took too long, or a search of yours did before: wait, and ask for less",
     b"toolargereply": "there are too many results: ask for fewer with -n",
     b"stopped": "the search was ended in its midst: ask again",
     b"nobody": "your number is that of nobody (65534), for whom nothing is searched",
