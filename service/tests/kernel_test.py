@@ -22,7 +22,7 @@ from wumpus.mirror.access import Access  # isort: skip
 from wumpus.mirror.turn import Mirror, Wish  # isort: skip
 from wumpus.shared.progress import Progress  # isort: skip
 from wumpus.mirror.reach import Direct  # isort: skip
-from wumpus.mirror.walk import Limits  # isort: skip
+from wumpus.mirror.limits import Limits  # isort: skip
 
 NUMBERS = (0, 65534, 4294967293, 1000, 1001, 1002, 1003, 1004, 1005, 1006, 1007, 1008, 1009)
 GROUPS = [2000, 2001, 2002, 2003, 65534, 0, 4294967294]

@@ -20,7 +20,7 @@ from wumpus.mirror import look  # isort: skip
 from wumpus.mirror.turn import Mirror, Wish  # isort: skip
 from wumpus.shared.progress import Progress  # isort: skip
 from wumpus.mirror.reach import Direct  # isort: skip
-from wumpus.mirror.walk import Limits  # isort: skip
+from wumpus.mirror.limits import Limits  # isort: skip
 
 ASKER = 4321
 SECRET = b"secret secret\n"

@@ -28,11 +28,15 @@ from service_test import (
 
 from wumpus.mirror import mounts, users  # isort: skip
 from wumpus.mirror.plan import Groups  # isort: skip
-from wumpus.mirror.turn import Mirror, Turn, Wish  # isort: skip
+from wumpus.mirror.budget import Accounts, Budget  # isort: skip
+from wumpus.mirror.remarks import Remarks  # isort: skip
+from wumpus.mirror.turn import Mirror, Wish  # isort: skip
 from wumpus.shared.progress import Progress  # isort: skip
 from wumpus.mirror.reach import Direct  # isort: skip
-from wumpus.mirror.state import State  # isort: skip
-from wumpus.mirror.walk import Limits  # isort: skip
+from wumpus.mirror.nodes import first_tree  # isort: skip
+from wumpus.mirror.limits import Limits  # isort: skip
+from wumpus.mirror.seen import FreshFile  # isort: skip
+from wumpus.mirror.walk import Walk  # isort: skip
 
 COUNT = b'count\t"apple"'
 
@@ -56,14 +60,17 @@ def still(folder: Path, score: Score) -> None:
     try:
         time.sleep(0.2)
         began = time.monotonic()
-        wish = Wish((os.fsencode(folder / "still"),), Limits(), {})
-        walk = Turn(wish, State(), Progress("test", True), folder).walk()
+        remarks = Remarks(lambda *_: None)
+        accounts = Accounts(Budget(), int)
+        walk = Walk(first_tree(), Limits(), accounts, remarks, lambda _: None)
+        walk.walk((os.fsencode(folder / "still"),))
         spent = time.monotonic() - began
     finally:
         os.kill(child, signal.SIGKILL)
         os.waitpid(child, 0)
     score.check(spent < 10, f"a walk beside a user who never rests took {spent:.0f} s")
-    score.check(any(one.size == 6 for one in walk.found.values()), "others are seen all the same")
+    files = [one for one in walk.found.values() if isinstance(one, FreshFile)]
+    score.check(any(one.size == 6 for one in files), "others are seen all the same")
 
 
 def of_mirror(place: Place, score: Score) -> None:

@@ -23,12 +23,12 @@ from unittest import mock
 from harness import Pace, Score, folder_of_own, needs_program, needs_root, options, quick_folder
 from kernel import User, become
 
-from wumpus.mirror import way  # isort: skip
+from wumpus.mirror import budget  # isort: skip
 from wumpus.mirror.turn import Mirror, Wish  # isort: skip
 from wumpus.shared.program import die_with_parent  # isort: skip
 from wumpus.shared.progress import Progress  # isort: skip
 from wumpus.mirror.reach import Direct  # isort: skip
-from wumpus.mirror.walk import Limits  # isort: skip
+from wumpus.mirror.limits import Limits  # isort: skip
 
 YOUNG = 0.02  # seconds in which two changes may have one ctime: two ticks of the slowest clock
 OWNER = User(1000, (1000,))
@@ -290,7 +290,7 @@ def main() -> int:
     needs_root("race")
     needs_program("race", given.program)
     score = Score("race")
-    young = mock.patch.object(way, "YOUNG", int(YOUNG * 1e9))
+    young = mock.patch.object(budget, "YOUNG", int(YOUNG * 1e9))
     with young, folder_of_own() as name, quick_folder() as store:
         os.mkdir(f"{name}/tree", 0o755)
         os.chown(f"{name}/tree", OWNER.number, OWNER.groups[0])

@@ -8,7 +8,6 @@ from typing import IO
 
 from ..shared.script import TEXT_MAX, spell
 from .nodes import CLOSED, MARK, ROOT
-from .plan import Plan
 
 CLOSED_NAME = b".wumpus-mirror"
 SAVE = b"save\n"
@@ -21,6 +20,7 @@ class Texts:
         self.file: IO[bytes] = tempfile.TemporaryFile(dir=folder)
         self.count = 0
         self.size = 0
+        self.text_bytes = 0  # of the texts alone
 
     def add(self, number: int, text: bytes) -> None:
         """A file's new text. Its length is counted here, so a body is never read as lines."""
@@ -32,6 +32,7 @@ class Texts:
         self.file.write(b"\n")
         self.count += 1
         self.size += len(head) + len(text) + 1
+        self.text_bytes += len(text)
 
     def close(self) -> None:
         """Gives the file back to the system."""
@@ -67,16 +68,18 @@ def question(serial: str) -> bytes:
 
 
 class Batch:
-    """A whole batch in a file without a name, and how many replies are due."""
+    """A batch, or a piece of one, in a file without a name, and how many replies are due."""
 
-    def __init__(self, folder: Path, before: str, serial: str, plan: Plan, texts: Texts) -> None:
-        head = [*begin(before, serial), *plan.head]
-        tail = [*plan.tail, *end(serial)]
-        self.due = len(head) + texts.count + len(tail)
+    def __init__(
+        self, folder: Path, head: list[bytes], texts: Texts | None, tail: list[bytes]
+    ) -> None:
+        self.due = len(head) + len(tail)
         self.file: IO[bytes] = tempfile.TemporaryFile(dir=folder)
         self.file.writelines(head)
-        texts.file.seek(0)
-        shutil.copyfileobj(texts.file, self.file, 1 << 20)
+        if texts is not None:
+            self.due += texts.count
+            texts.file.seek(0)
+            shutil.copyfileobj(texts.file, self.file, 1 << 20)
         self.file.writelines(tail)
         self.file.flush()
         self.size = self.file.tell()

@@ -1,29 +1,46 @@
 """The command line of `wumpus-mirror`."""
 
 import argparse
+import contextlib
 import gc
+import math
 import os
+import resource
 import signal
 import sys
 import time
-from collections.abc import Callable
+import traceback
+from collections.abc import Callable, Iterator
+from dataclasses import replace
 from pathlib import Path
 from types import FrameType
 
 from .. import VERSION
+from ..shared.notify import notify
 from ..shared.privileges import become_owner_of
 from ..shared.progress import Progress, plain
-from ..shared.store import CONTROL, FOLDER, SOCKETS, Failed, check_own, only_one
+from ..shared.store import CONTROL, FOLDER, SOCKETS, Busy, Failed, check_own, only_one
 from .access import Access
+from .budget import Budget
 from .nodes import Identity, identity_of
 from .plan import Groups
 from .reach import Direct, Served, Unanswered
 from .state import BadState
-from .turn import Mirror, Report, Wish, dry_run
+from .status import StatusFile
+from .turn import SLICE_SECONDS, Mirror, Report, Wish
 from .users import BadUsers, SystemUsers, of_file
-from .walk import BadRoot, Limits
+from .limits import BadRoot, Limits
+from .wanted import Wanted, take_wanted, want
 
-SOON = 2.0  # seconds after which a service that wasn't there is looked for again
+SOON = 2.0  # seconds after which what failed is tried again
+TOLD_AGAIN = 60.0  # seconds after which the same failure is told again
+SLICE_AT_LEAST = 1.0  # seconds
+LOOKED_FOR_WANTED = 1.0  # seconds between two looks for what an administrator asks
+DESCRIPTORS = 4096
+
+
+class Unfinished(Exception):
+    """A turn was fed, but something that was asked for is missing, or is held."""
 
 
 def parser() -> argparse.ArgumentParser:
@@ -34,7 +51,7 @@ def parser() -> argparse.ArgumentParser:
         allow_abbrev=False,
     )
     add = options.add_argument
-    add("roots", nargs="+", metavar="ROOT", help="a directory to mirror with all below it")
+    add("roots", nargs="*", metavar="ROOT", help="a directory to mirror with all below it")
     add("--folder", default=FOLDER, metavar="DIR", help=f"the folder of the store ({FOLDER})")
     add("--program", default="wumpus", metavar="PATH", help="the program (wumpus)")
     add("--sockets", default=SOCKETS, metavar="DIR", help=f"of the service ({SOCKETS})")
@@ -46,11 +63,56 @@ def parser() -> argparse.ArgumentParser:
     add("--users", metavar="FILE", help="a user and her groups a line, in place of the system's")
     add("--served", action="store_true", help="only by a service: never run the program itself")
     add("--every", type=float, metavar="SECONDS", help="go on for ever, a turn so often")
+    add("--now", action="append", default=[], metavar="PATH",
+        help="look at this path at once, also where another mirror runs; may be given again")  # fmt: skip
+    add("--force", action="store_true", help="take away what is held, as it was found")
     add("--anew", action="store_true", help="move the store aside, and feed all anew")
     add("--dry-run", action="store_true", help="write what would be fed, and feed nothing")
+    add_budget(options)
     add("--quiet", action="store_true", help="no warnings, no progress, no report")
     add("--version", action="version", version=f"wumpus-mirror {VERSION}")
     return options
+
+
+def add_budget(options: argparse.ArgumentParser) -> None:
+    """The options that bound what one owner may cost."""
+    add, budget = options.add_argument, Budget()
+    add("--budget-names", type=count_of, default=budget.names, metavar="N",
+        help=f"names of what one user owns ({budget.names})")  # fmt: skip
+    add("--budget-directories", type=count_of, default=budget.directories, metavar="N",
+        help=f"directories of one user ({budget.directories})")  # fmt: skip
+    add("--budget-links", type=count_of, default=budget.links, metavar="N",
+        help=f"names of one file of a user ({budget.links})")  # fmt: skip
+    add("--budget-bytes", type=count_of, default=budget.text_bytes, metavar="N",
+        help=f"of the texts of one user ({budget.text_bytes})")  # fmt: skip
+    add("--budget-seconds", type=seconds_of, default=budget.seconds, metavar="SECONDS",
+        help=f"of a walk, and of the looks after it, for one user ({budget.seconds:.0f})")  # fmt: skip
+
+
+def count_of(text: str) -> int:
+    """A number of an option, at least 1. Raises `ValueError`."""
+    if not text.isascii() or not text.isdigit() or int(text) < 1:
+        raise ValueError
+    return int(text)
+
+
+def seconds_of(text: str) -> float:
+    """A time of an option, more than 0. Raises `ValueError`."""
+    seconds = float(text)
+    if not 0 < seconds < math.inf:
+        raise ValueError
+    return seconds
+
+
+def budget_of(given: argparse.Namespace) -> Budget:
+    """The bounds that the options set."""
+    return Budget(
+        names=given.budget_names,
+        directories=given.budget_directories,
+        links=given.budget_links,
+        text_bytes=given.budget_bytes,
+        seconds=given.budget_seconds,
+    )
 
 
 def users_of(
@@ -78,7 +140,8 @@ def wish_of(given: argparse.Namespace, folder: Path, users: Groups) -> Wish:
     if given.exclude_from:
         excludes += patterns_in(Path(given.exclude_from))
     limits = Limits(tuple(excludes), given.one_file_system, omitted, Access(given.unlisted))
-    return Wish(tuple(os.fsencode(root) for root in given.roots), limits, users)
+    roots = tuple(os.fsencode(root) for root in given.roots)
+    return Wish(roots, limits, users, budget_of(given))
 
 
 def reach_of(given: argparse.Namespace, folder: Path) -> Direct | Served:
@@ -94,63 +157,140 @@ def reach_of(given: argparse.Namespace, folder: Path) -> Direct | Served:
         return Direct(given.program, folder)
 
 
-def one_session(given: argparse.Namespace, folder: Path, progress: Progress) -> None:
+class Watch:
+    """Tells systemd that the mirror gets on, and keeps the status file, as often as is due."""
+
+    def __init__(self, folder: Path) -> None:
+        self.status = StatusFile(folder)
+        self.mirror: Mirror | None = None
+        self.doing = "walking"
+        self.last = 0.0
+
+    def pulse(self) -> None:
+        """Something got on."""
+        if time.monotonic() - self.last > 1.0:
+            self.last = time.monotonic()
+            notify(b"WATCHDOG=1")
+            self.tell(self.doing)
+
+    def tell(self, doing: str, trouble: str | None = None, is_due: bool = False) -> None:
+        """What the mirror does."""
+        self.doing = doing
+        if self.mirror is not None:
+            self.status.write(self.mirror, doing, trouble, is_due)
+
+
+class Session:
     """Turns over one reach of the program, as many as are wanted or until something fails."""
-    check_own(folder)
-    with only_one(folder / "mirror.lock", "another mirror"):
-        turns(given, folder, progress)
 
+    def __init__(self, given: argparse.Namespace, folder: Path, progress: Progress) -> None:
+        self.given = given
+        self.folder = folder
+        self.progress = progress
+        self.watch = Watch(folder)
+        self.users: Callable[[], Groups] = dict
+        self.told = ""  # what was missing or held at the last turn
 
-def turns(given: argparse.Namespace, folder: Path, progress: Progress) -> None:
-    """What `one_session` does, alone in its folder."""
-    reach = reach_of(given, folder)
-    whole = is_told = False
-    try:
-        users = users_of(given, reach, progress.warn)
-        mirror = Mirror(reach, folder, progress)
-        mirror.begin(given.anew, given.dry_run)
-        given.anew = False
+    def run(self) -> None:
+        """Raises `Failed` and others, and `Unfinished` after a single turn."""
+        reach = reach_of(self.given, self.folder)
+        is_whole = False
+        try:
+            self.users = users_of(self.given, reach, self.progress.warn)
+            mirror = Mirror(reach, self.folder, self.progress, self.watch.pulse)
+            self.watch.mirror = mirror
+            mirror.begin(self.given.anew, self.given.dry_run)
+            self.given.anew = False
+            if self.given.dry_run:
+                wish = wish_of(self.given, self.folder, self.users())
+                mirror.dry_run(wish, sys.stdout.buffer)
+            else:
+                self._turns(mirror)
+            is_whole = True
+        except Unfinished:
+            is_whole = True
+            raise
+        finally:
+            if is_whole:
+                reach.close()
+            else:
+                reach.abandon()
+
+    def _turns(self, mirror: Mirror) -> None:
+        """Turn after turn, or one. Raises `Unfinished`."""
+        wanted = Wanted(tuple(map(os.fsencode, self.given.now)), self.given.force)
+        is_first = True
         while True:
             began = time.monotonic()
-            wish = wish_of(given, folder, users())
-            if given.dry_run:
-                report(dry_run(mirror, wish, sys.stdout.buffer), began, given.quiet)
+            due = math.inf if self.given.every is None else began + self.given.every
+            wanted = self._turn(mirror, wanted, due)
+            mirror.rest()
+            self.progress.end_turn()
+            is_told = is_first or mirror.report.batches > 0
+            if is_told and not self.given.quiet:
+                tell(mirror.report, mirror.pending.files, time.monotonic() - began)
+            is_first = False
+            self._tell_unfinished(mirror.report)
+            self.watch.tell("waiting", self.told or None, is_due=True)
+            if self.given.every is None:
                 return
-            told = one_turn(mirror, wish)
-            reach.done()
-            report(told, began, given.quiet or (is_told and told.batches == 0))
-            if told.missing:
-                raise BadRoot("; ".join(told.missing))
-            is_told = True  # of later turns only those that fed something are told
-            if given.every is None:
-                break
-            time.sleep(max(0.0, given.every - (time.monotonic() - began)))
-        whole = True
-    finally:
-        if whole:
-            reach.close()
-        else:
-            reach.abandon()
+            wanted = wanted or self._wait(due)
+
+    def _turn(self, mirror: Mirror, wanted: Wanted, due: float) -> Wanted:
+        """One turn: what is asked for meanwhile ends it."""
+        wish = wish_of(self.given, self.folder, self.users())
+        wish = replace(wish, force=wanted.force, first=wanted.paths)
+        self.watch.tell("walking")
+        with without_cycles():
+            mirror.walk(wish)
+        self.watch.status.count(mirror.state.tree)
+        self.watch.tell("feeding", is_due=True)
+        while True:
+            left = due - time.monotonic()
+            seconds = SLICE_SECONDS if left <= 0 else max(SLICE_AT_LEAST, left)
+            more = mirror.look(wish, min(SLICE_SECONDS, seconds))
+            asked = take_wanted(self.folder)
+            if asked or not more or time.monotonic() >= due:
+                return asked
+
+    def _wait(self, due: float) -> Wanted:
+        """Waits until the next turn is due, or asked for."""
+        while (left := due - time.monotonic()) > 0:
+            time.sleep(min(left, LOOKED_FOR_WANTED))
+            self.watch.pulse()
+            asked = take_wanted(self.folder)
+            if asked:
+                return asked
+        return Wanted()
+
+    def _tell_unfinished(self, report: Report) -> None:
+        """Tells what is missing or held: once, or by `Unfinished` where there is one turn."""
+        held = [f"{one}: it waits for --force" for one in report.held]
+        told = "; ".join([*report.missing, *held])
+        if told and self.given.every is None:
+            raise Unfinished(told)
+        if told and told != self.told:
+            print(f"wumpus-mirror: {plain(told)}", file=sys.stderr)
+        self.told = told
 
 
-def one_turn(mirror: Mirror, wish: Wish) -> Report:
-    """A turn, while which nobody looks for cycles: its many small objects are in none."""
+@contextlib.contextmanager
+def without_cycles() -> Iterator[None]:
+    """Nobody looks for cycles meanwhile: the many small objects of a walk are in none."""
     gc.disable()
     try:
-        return mirror.turn(wish)
+        yield
     finally:
         gc.enable()
 
 
-def report(told: Report, began: float, quiet: bool) -> None:
+def tell(report: Report, waiting: int, seconds: float) -> None:
     """Tells what a turn did, on standard error."""
-    if quiet:
-        return
-    seconds = time.monotonic() - began
-    shut = f", {told.shut} shut" if told.shut else ""
+    shut = f", {report.shut} shut" if report.shut else ""
+    left = f", {waiting} left" if waiting else ""
     print(
-        f"wumpus-mirror: {told.files} files, {told.looked} looked at{shut}, "
-        f"{told.texts} texts of {told.size} bytes sent in {told.batches} batches, "
+        f"wumpus-mirror: {report.files} files, {report.looked} looked at{shut}{left}, "
+        f"{report.texts} texts of {report.size} bytes sent in {report.batches} batches, "
         f"{seconds:.1f} s",
         file=sys.stderr,
     )
@@ -163,24 +303,64 @@ def end(_number: int, _frame: FrameType | None) -> None:
 
 def main() -> int:
     """Runs the command line: 0, or 2 where something failed."""
-    given = parser().parse_args()
-    folder = Path(given.folder)
-    progress = Progress("wumpus-mirror", given.quiet)
+    options = parser()
+    given = options.parse_args()
+    if not given.roots and not given.now and not given.force:
+        options.error("a root is needed")
     signal.signal(signal.SIGTERM, end)
+    hard = resource.getrlimit(resource.RLIMIT_NOFILE)[1]
+    resource.setrlimit(resource.RLIMIT_NOFILE, (min(DESCRIPTORS, hard), hard))
     try:
-        become_owner_of(folder)
+        return run(given)
     except (Failed, OSError) as error:
         print(f"wumpus-mirror: {plain(str(error))}", file=sys.stderr)
         return 2
+    except KeyboardInterrupt:
+        return 2
+    except Exception:
+        traceback.print_exc()
+        return 2
+
+
+def run(given: argparse.Namespace) -> int:
+    """What `main` does: tries again after a failure, where turns are to go on."""
+    folder = Path(given.folder)
+    progress = Progress("wumpus-mirror", given.quiet)
+    become_owner_of(folder)
+    session = Session(given, folder, progress)
+    wanted = Wanted(tuple(map(os.fsencode, given.now)), given.force)
+    told, when = "", -math.inf
+    notify(b"READY=1")
     while True:
         try:
-            one_session(given, folder, progress)
+            check_own(folder)
+            if given.roots:
+                with only_one(folder / "mirror.lock", "another mirror"):
+                    session.run()
+                return 0
+            ask_running(folder, wanted)
             return 0
-        except (Failed, BadRoot, BadState, BadUsers, OSError) as error:
-            progress.clear()
-            print(f"wumpus-mirror: {plain(str(error))}", file=sys.stderr)
-            if given.every is None:
-                return 2
-            time.sleep(min(given.every, SOON) if isinstance(error, Unanswered) else given.every)
-        except KeyboardInterrupt:
+        except Busy as error:
+            if wanted and given.every is None:
+                want(folder, wanted)
+                return 0
+            why = plain(str(error))
+        except (Failed, BadRoot, BadState, BadUsers, Unfinished, OSError) as error:
+            why = plain(str(error))
+        progress.clear()
+        if why != told or time.monotonic() - when > TOLD_AGAIN:
+            print(f"wumpus-mirror: {why}", file=sys.stderr)
+            told, when = why, time.monotonic()
+        session.watch.tell("failed", why, is_due=True)
+        if given.every is None:
             return 2
+        time.sleep(SOON)
+
+
+def ask_running(folder: Path, wanted: Wanted) -> None:
+    """Asks the mirror that runs. Raises `Failed` where none does."""
+    try:
+        with only_one(folder / "mirror.lock", "another mirror"):
+            raise Failed("no mirror is at work there: its options and roots are needed")
+    except Busy:
+        want(folder, wanted)

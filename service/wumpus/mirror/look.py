@@ -1,66 +1,56 @@
 """Looking at files: rights and text of each file that changed, read through descriptors.
 
-Each file is read between two looks at the way from `/` down to it, as a directory is in a walk.
-Its status before and after must agree, and be that of the file which the walk saw.
+Files are read in windows, as directories are in a walk, several in one. A file's status before and
+after must agree, and be that of the file which the walk saw.
 """
 
 import hashlib
 import os
 import stat
 import time
-from collections.abc import Callable, Iterator
+from collections import deque
+from collections.abc import Callable
 from dataclasses import dataclass
 
 from ..shared.script import TEXT_MAX
 from .access import Access, BadList
+from .budget import Account, Accounts
 from .nodes import Node, Rights, identity_of
+from .pending import Place
+from .reasons import Reason
+from .remarks import path_of
 from .walk import ATTEMPTS
-from .way import DIRECTORY_FLAGS, Found, Patience, Torn, Way
+from .way import Restless, Torn, Ways
 
 FILE_FLAGS = os.O_RDONLY | os.O_NOFOLLOW | os.O_NONBLOCK | os.O_NOCTTY | os.O_CLOEXEC
 LOOKED_FOR_NUL = 8192
 SETTLED = 40_000_000_000  # nanoseconds in which a mapped file may change under one ctime
 PIECE = 1 << 20
+OPEN_AT_MOST = 512  # directories in a window, but for the last way
 
 
 @dataclass(slots=True)
 class Looked:
     """A file that was looked at: its node, and its text where there is one."""
 
+    place: Place
     node: Node
     text: bytes
 
 
 @dataclass(slots=True)
-class Place:
-    """A file that has to be looked at, and the directories on the way to it with their names."""
+class Failed:
+    """A file that couldn't be looked at."""
 
-    way: list[tuple[bytes, Found]]
-    name: bytes
-    found: Found
-
-
-class Unstable(Exception):
-    """The file isn't what the walk saw, or changes while it is read."""
+    place: Place
+    why: Reason
 
 
-def places_of(top: Found) -> Iterator[Place]:
-    """A place of each file that has to be looked at, directory by directory from the top."""
-    seen: set[int] = set()
-    yield from _places_below([(b"/", top)], seen)
+class Changed(Exception):
+    """The file changed while it was read: it may be read again."""
 
 
-def _places_below(way: list[tuple[bytes, Found]], seen: set[int]) -> Iterator[Place]:
-    directories = []
-    for name, child in way[-1][1].entries.items():
-        if isinstance(child, Found) and child.is_directory:
-            directories.append((name, child))
-        elif isinstance(child, Found) and not child.torn and child.number not in seen:
-            if child.links > 1:
-                seen.add(child.number)
-            yield Place(way, name, child)
-    for one in directories:
-        yield from _places_below([*way, one], seen)
+Outcome = Looked | Failed | None  # None: it didn't stand still in this window
 
 
 def digest_of(text: bytes) -> bytes:
@@ -69,104 +59,104 @@ def digest_of(text: bytes) -> bytes:
 
 
 class Looker:
-    """Looks at one place after the other. `warn` is told of what is left out.
+    """Looks at files, between two walks. `warn` is told of what has no text, and why."""
 
-    A look at the way after a file was read is the one before the next file of its directory.
-    """
-
-    def __init__(self, warn: Callable[[str], None], access: Access) -> None:
+    def __init__(
+        self, accounts: Accounts, access: Access, warn: Callable[[str, bytes], None]
+    ) -> None:
+        self.accounts = accounts
         self.access = access
-        self.patience = Patience()
-        self.way = Way(self.patience, access)
-        self.last: list[int] | None = None  # what the last look at this way saw
+        self.ways = Ways(accounts, access)
         self.warn = warn
 
     def close(self) -> None:
         """Closes all that is open."""
-        while self.way.steps:
-            self.way.leave()
+        self.ways.close()
 
-    def look(self, place: Place) -> Looked | None:
-        """The file at the place, or None where it isn't stable, or can't be read."""
+    def look(self, places: list[Place]) -> list[Looked | Failed]:
+        """Looks at files of one person, and again at each that didn't stand still."""
+        began = time.monotonic()
+        found: list[Looked | Failed] = []
+        waiting = deque(places)
+        while waiting:
+            found += [self._until_still(place, seen) for place, seen in self._window(waiting)]
+        self.accounts.of_owner(places[0].file.owner).seconds -= time.monotonic() - began
+        return found
+
+    def _until_still(self, place: Place, outcome: Outcome) -> Looked | Failed:
+        """The same outcome, or what comes of looking again, as long as there is patience."""
+        for _ in range(ATTEMPTS - 1):
+            account = self._account(place)
+            if outcome is not None or not self.accounts.is_patient(account):
+                break
+            began = time.monotonic()
+            ((_, outcome),) = self._window(deque([place]))
+            self.accounts.wait(account, time.monotonic() - began)
+        return Failed(place, Reason.TORN) if outcome is None else outcome
+
+    def _account(self, place: Place) -> Account:
+        """The account to which the time of a file that doesn't stand still counts."""
+        if place.file.owner:
+            return self.accounts.of_owner(place.file.owner)
+        return self.ways.account_of(place.directory)
+
+    def _window(self, waiting: deque[Place]) -> list[tuple[Place, Outcome]]:
+        """What is seen, in one window, of the first files that wait."""
+        seen: list[tuple[Place, Outcome]] = []
+        while waiting and len(self.ways.steps) < OPEN_AT_MOST:
+            place = waiting.popleft()
+            seen.append((place, self._outcome(place)))
+        self.ways.look()
+        held = [(place, self._held(place, outcome)) for place, outcome in seen]
+        self.ways.keep(seen[-1][0].directory)
+        return held
+
+    def _held(self, place: Place, outcome: Outcome) -> Outcome:
+        """The outcome, where the window held on the way to the file."""
+        step = self.ways.steps.get(place.directory)
+        stood_still = step is not None and step.cause is None
+        return outcome if stood_still or isinstance(outcome, Failed) else None
+
+    def _outcome(self, place: Place) -> Outcome:
+        """What is seen of a file, if the window holds."""
         try:
-            self._go(place.way)
-            for _ in range(ATTEMPTS):
-                began = time.monotonic()
-                before = self.last or self.way.look()
-                self.last = None
-                looked = self._read(place)
-                self.last = self.way.look()
-                if looked is not None and self.last == before:
-                    return looked
-                if not self.patience.is_left_for(place.way[-1][1], began):
-                    break
-        except (Torn, Unstable):
+            directory = self.ways.reach(place.directory).descriptor
+            return self._read(place, directory)
+        except (Torn, Restless, FileNotFoundError, BlockingIOError):
+            return Failed(place, Reason.TORN)
+        except Changed:
             return None
-        except (BadList, OSError) as error:
-            path = b"/".join([b"", *(name for name, _ in place.way[1:]), place.name])
-            self.warn(f"{os.fsdecode(path)}: it is shut: {error}")
-        return None
+        except BadList:
+            return Failed(place, Reason.LIST)
+        except OSError:
+            return Failed(place, Reason.UNREADABLE)
 
-    def _go(self, way: list[tuple[bytes, Found]]) -> None:
-        """Opens the way to a directory; what leads to it already stays open."""
-        steps = self.way.steps
-        common = 0
-        while common < min(len(steps), len(way)) and steps[common].found is way[common][1]:
-            common += 1
-        if common < max(len(steps), len(way)):
-            self.last = None
-        while len(steps) > common:
-            self.way.leave()
-        for name, found in way[common:]:
-            if found.torn:
-                raise Torn
-            above = steps[-1].descriptor if steps else None
-            try:
-                descriptor = os.open(name, DIRECTORY_FLAGS, dir_fd=above)
-            except OSError as error:
-                raise Torn from error
-            self.way.enter(name, found, descriptor)
-
-    def _read(self, place: Place) -> Looked | None:
-        """Reads the file once: None where it changed meanwhile."""
-        directory = self.way.steps[-1].descriptor
+    def _read(self, place: Place, directory: int) -> Looked:
+        """Reads the file once. Raises `Changed`, `Restless`, `BadList`, and `OSError`."""
+        descriptor = os.open(place.name, FILE_FLAGS, dir_fd=directory)
         try:
-            descriptor = os.open(place.name, FILE_FLAGS, dir_fd=directory)
-        except (FileNotFoundError, BlockingIOError) as error:
-            raise Unstable from error
-        try:
-            if not self.patience.wait_until_old(os.fstat(descriptor)):
-                raise Unstable
-            status = os.fstat(descriptor)
-            self._check(place.found, status)
+            status = self.ways.settled(descriptor)
+            _check(place, status)
             rights = self.access.of_file(descriptor, status)
-            text = self._text(descriptor, status, place.name)
+            text = self._text(descriptor, status, place)
             after = os.fstat(descriptor)
         finally:
             os.close(descriptor)
-        if text is None or _what_tells(status) != _what_tells(after):
-            return None
-        return Looked(_node_of(place.found, status, rights, text), text)
+        if _what_tells(status) != _what_tells(after):
+            raise Changed
+        return Looked(place, _node_of(place, status, rights, text), text)
 
-    @staticmethod
-    def _check(found: Found, status: os.stat_result) -> None:
-        """Raises `Unstable` where this isn't the file that was walked by.
+    def _text(self, descriptor: int, status: os.stat_result, place: Place) -> bytes:
+        """The file's bytes as its text: empty where they are too many, or aren't text.
 
-        One with several names must have stayed as it was: the other names aren't looked at again.
+        Raises `Changed` where it has another size than its status says.
         """
-        if identity_of(status) != found.identity or not stat.S_ISREG(status.st_mode):
-            raise Unstable
-        if found.links > 1 and status.st_ctime_ns != found.changed:
-            raise Unstable
-
-    def _text(self, descriptor: int, status: os.stat_result, name: bytes) -> bytes | None:
-        """The file's bytes as its text: empty where they are too many, or aren't text."""
         if status.st_size > TEXT_MAX:
-            self.warn(f"{os.fsdecode(name)}: over 16 MiB, its path is kept without its text")
+            self._warn("over 16 MiB, its path is kept without its text", place)
             return b""
         if status.st_size and os.lseek(descriptor, 0, os.SEEK_HOLE) < status.st_size:
             # Its holes take no room of its owner's, and would take it of the store's.
-            self.warn(f"{os.fsdecode(name)}: has holes, its path is kept without its text")
+            self._warn("has holes, its path is kept without its text", place)
             return b""
         os.lseek(descriptor, 0, os.SEEK_SET)
         pieces = [os.read(descriptor, min(status.st_size + 1, PIECE))]
@@ -176,7 +166,24 @@ class Looker:
         while pieces[-1] and size <= status.st_size:
             pieces.append(os.read(descriptor, PIECE))
             size += len(pieces[-1])
-        return b"".join(pieces) if size == status.st_size else None
+        if size != status.st_size:
+            raise Changed
+        return b"".join(pieces)
+
+    def _warn(self, sentence: str, place: Place) -> None:
+        self.warn(sentence, path_of(place.directory, place.name))
+
+
+def _check(place: Place, status: os.stat_result) -> None:
+    """Raises `Torn` where this isn't the file that was walked by.
+
+    One with several names must have stayed as it was: the other names aren't looked at again.
+    """
+    file = place.file
+    if identity_of(status) != file.identity or not stat.S_ISREG(status.st_mode):
+        raise Torn(place.directory)
+    if file.names > 1 and status.st_ctime_ns != file.changed:
+        raise Torn(place.directory)
 
 
 def _what_tells(status: os.stat_result) -> tuple[int, ...]:
@@ -191,9 +198,11 @@ def _what_tells(status: os.stat_result) -> tuple[int, ...]:
     )
 
 
-def _node_of(found: Found, status: os.stat_result, rights: Rights, text: bytes) -> Node:
+def _node_of(place: Place, status: os.stat_result, rights: Rights, text: bytes) -> Node:
     """The node of a file that was read."""
     settled = time.time_ns() - status.st_ctime_ns > SETTLED
-    changed = status.st_ctime_ns if settled else 0
-    size = status.st_size
-    return Node(found.number, False, rights, digest_of(text), found.identity, changed, size)
+    changed = status.st_ctime_ns if settled else -status.st_ctime_ns
+    file = place.file
+    return Node(
+        file.number, False, rights, digest_of(text), file.identity, changed, status.st_size
+    )

@@ -51,7 +51,8 @@ class Node:
     """A node as the program has it, and the status of the real one that it was made from.
 
     `digest` is that of the text that the program has, empty for the empty text. `changed` is the
-    real node's ctime in nanoseconds, or 0 where it has to be looked at again in the next turn.
+    real node's ctime in nanoseconds: 0 where it has to be looked at again, and negative where it
+    was looked at so soon after that moment that its text may change under the same ctime.
     """
 
     number: int

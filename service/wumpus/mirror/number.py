@@ -5,12 +5,9 @@ found at the place of a node that is gone takes that node's number, so that a fi
 writes anew and renames is a change of text, and devices may be numbered anew.
 """
 
-from collections.abc import Iterator
-
 from ..shared.script import NUMBER_MAX
-from .nodes import FIRST, ROOT, Node, Tree
-from .walk import Walk
-from .way import Found
+from .nodes import FIRST, ROOT, Identity, Node, Tree
+from .seen import Entry, FreshFile, Kept, SeenDirectory, directories_of
 
 
 class Numbers:
@@ -32,54 +29,46 @@ class Numbers:
         return self.following - 1
 
 
-def give_numbers(walk: Walk, old: Tree, following: int) -> int:
-    """Sets `number` and `links` of all that is reached from the top of the walk.
+def give_numbers(
+    top: SeenDirectory, found: dict[Identity, Entry], old: Tree, following: int
+) -> int:
+    """Sets the numbers, and the counts of names, of all that is reached from the top of a walk.
 
     Gives the number to be tried first the next time.
     """
     numbers = Numbers(old.nodes, following)
-    for found in walk.found.values():
-        if isinstance(found, Found):
-            known = found.known
-            found.number = known.number if known is not None and known.number != ROOT else 0
-            found.links = 0
-    walk.top.number = ROOT
     taken = {ROOT}
-    for directory in directories_of(walk.top):
+    for directory in directories_of(top):
         places = old.entries.get(directory.number, {})
         for name, child in directory.entries.items():
-            if isinstance(child, Node):
+            if isinstance(child, Node | Kept):
                 continue
-            child.links += 1
+            if isinstance(child, FreshFile):
+                child.names += 1
             if child.number == 0:
-                child.number = _of_place(walk, old, places.get(name), child, taken)
-                child.number = child.number or numbers.draw()
+                before = _of_place(found, old, places.get(name), child, taken)
+                child.number = before or numbers.draw()
     return numbers.following
 
 
-def _of_place(walk: Walk, old: Tree, before: int | None, found: Found, taken: set[int]) -> int:
+def _of_place(
+    found: dict[Identity, Entry],
+    old: Tree,
+    before: int | None,
+    child: FreshFile | SeenDirectory,
+    taken: set[int],
+) -> int:
     """The number of the node that was at the place before; 0 where it isn't free, or no like."""
     if before is None or before in taken:
         return 0
     node = old.nodes[before]
-    if node.is_directory != found.is_directory or _is_found(walk, node):
+    if node.is_directory != isinstance(child, SeenDirectory) or _is_found(found, node):
         return 0
     taken.add(before)
     return before
 
 
-def _is_found(walk: Walk, node: Node) -> bool:
+def _is_found(found: dict[Identity, Entry], node: Node) -> bool:
     """Whether the node is found again, somewhere."""
-    seen = walk.found.get(node.identity)
-    return seen is node or isinstance(seen, Found) and seen.known is node
-
-
-def directories_of(top: Found) -> Iterator[Found]:
-    """The directories from the top down, each before those in it."""
-    waiting = [top]
-    while waiting:
-        directory = waiting.pop()
-        yield directory
-        for child in directory.entries.values():
-            if isinstance(child, Found) and child.is_directory:
-                waiting.append(child)
+    seen = found.get(node.identity)
+    return seen is not None and seen.number == node.number

@@ -3,8 +3,8 @@
 The control socket of the service takes lines with TABs between their fields, and answers each with
 one: `ask LINE` passes a line to the program and answers `reply LINE`; `batch DUE`, which brings a
 file, feeds it whole; `reset` moves the store aside; `fed MOMENT` tells when the walk began whose
-names and rights the program has; `done` tells that a turn is over. `ok` is the answer to the last
-four, or `failed WHY`.
+names and rights the program has whole; `done` tells that all that there is was fed once. `ok` is the
+answer to the last four, or `failed WHY`.
 """
 
 import contextlib
@@ -23,10 +23,15 @@ from .batch import Batch
 
 WORK = b"work\t100000\n"
 END_SECONDS = 600.0
+NO_MEMORY = 4  # with this status the program ends where memory is short
 
 
 class Unanswered(Failed):
     """No service answers; it may be about to."""
+
+
+class NoMemory(Failed):
+    """The program has no memory for a batch, of which nothing is saved."""
 
 
 class Reach(Protocol):
@@ -41,14 +46,24 @@ class Reach(Protocol):
     def reset(self) -> None:
         """Moves the store aside: the program begins with an empty one."""
 
-    def fed(self, began: int) -> None:
-        """The program has the names and rights of the walk that began at this moment."""
+    def fed(self, moment: int) -> None:
+        """The program has all names and rights as a walk saw them that began at this moment.
+
+        It is in milliseconds of the clock that goes on since the machine began.
+        """
 
     def done(self) -> None:
-        """A turn is over."""
+        """All that there is was fed once."""
 
     def close(self) -> None:
         """Ends the connection, or the program."""
+
+
+def _failure(why: str) -> Failed:
+    """What went wrong with a batch. The program's status is 4 where it has no memory."""
+    if why.startswith("failed memory") or why.endswith(f"status {NO_MEMORY}"):
+        return NoMemory(why)
+    return Failed(f"the service says: {why}" if why.startswith("failed") else why)
 
 
 class Direct:
@@ -86,7 +101,7 @@ class Direct:
         except (Ended, Refused) as error:
             self._stop()
             self._start()
-            raise Failed(str(error)) from error
+            raise _failure(str(error)) from error
 
     def reset(self) -> None:
         """Moves the store aside."""
@@ -94,8 +109,8 @@ class Direct:
         move_aside(self.folder)
         self._start()
 
-    def fed(self, began: int) -> None:
-        """Nobody asks meanwhile."""
+    def fed(self, moment: int) -> None:
+        """Nobody is answered meanwhile, so there is nobody to tell."""
 
     def done(self) -> None:
         """Merges the parts of the index until there is nothing to do; the end saves that."""
@@ -149,7 +164,7 @@ class Served:
     def _expect(self) -> None:
         fields = self._answer()
         if fields != [b"ok"]:
-            raise Failed("the service says: " + b" ".join(fields).decode("utf-8", "replace"))
+            raise _failure(b" ".join(fields).decode("utf-8", "replace"))
 
     def _send(self, line: bytes) -> None:
         try:
@@ -180,13 +195,13 @@ class Served:
         self._send(b"reset\n")
         self._expect()
 
-    def fed(self, began: int) -> None:
-        """Tells when the walk began that was fed."""
-        self._send(b"fed\t%d\n" % began)
+    def fed(self, moment: int) -> None:
+        """Tells how old the walk is whose names and rights were fed."""
+        self._send(b"fed\t%d\n" % moment)
         self._expect()
 
     def done(self) -> None:
-        """Tells that a turn is over."""
+        """Tells that all that there is was fed once."""
         self._send(b"done\n")
         self._expect()
 

@@ -2,7 +2,7 @@
 
 The file `mirror.state` has one JSON value a line: first the whole state, in a line of its own and
 one for each directory, or several where it has many names, and then one line for each later batch
-of texts, with the nodes that it changed. A whole state that is about to be fed stands
+in which no name changed, with the nodes that it changed. A whole state that is about to be fed stands
 in `mirror.next` first. Both are written before their batch is fed: which of them is true, the
 program tells, since each batch has a serial of its own, the name of a directory in the closed one.
 """
@@ -23,6 +23,7 @@ from .plan import Groups
 
 FORMAT = 2
 READ = (1, FORMAT)  # the first had one line for each directory
+ADDED_AT_MOST = 16 << 20  # bytes of later batches, beside twice the whole state
 PIECE = 4096  # names of a directory in a line, which is in memory as a whole
 NAME = "mirror.state"
 NEXT = "mirror.next"
@@ -36,8 +37,9 @@ class BadState(Exception):
 class State:
     """The tree and the users as they are after the batch with this serial.
 
-    `lists` tells whether the program knew access lists then; `following` is the number to try
-    first for a new node. `unlisted` tells how the rights of directories were read.
+    `lists` tells whether the program knew access lists then, and `complete` whether all that there
+    was had been looked at once; `following` is the number to try first for a new node. `unlisted`
+    tells how the rights of directories were read.
     """
 
     serial: str = ""
@@ -46,6 +48,7 @@ class State:
     following: int = FIRST
     lists: bool = False
     unlisted: bool = False
+    complete: bool = False
 
     def forget_directories(self) -> None:
         """Has the rights of each directory read again."""
@@ -55,7 +58,10 @@ class State:
 
 @dataclass(slots=True)
 class Addition:
-    """A later batch of texts: its serial, and the nodes that it changed."""
+    """A later batch in which no name changed: its serial, and the nodes that it changed.
+
+    Where it has the serial of the one before, no batch was fed: only more is known of the nodes.
+    """
 
     serial: str
     nodes: list[Node]
@@ -137,6 +143,7 @@ def spell_state(state: State) -> Iterator[str]:
         "following": state.following,
         "lists": state.lists,
         "unlisted": state.unlisted,
+        "complete": state.complete,
         "users": [[user, *groups] for user, groups in state.users.items()],
         "lines": sum(max(1, -(-len(names) // PIECE)) for names in entries.values()),
     }
@@ -179,6 +186,7 @@ def read_state(path: Path) -> tuple[State, list[Addition]] | None:
             state = State(
                 told["serial"], Tree(), users, told["following"], told["lists"], unlisted
             )
+            state.complete = told.get("complete", False)
             for _ in range(told["lines" if told["format"] == FORMAT else "directories"]):
                 _read_directory(reader, state.tree, next(lines))
             additions = [_read_addition(reader, line) for line in lines if line.endswith("\n")]
@@ -232,6 +240,8 @@ class Files:
         self.folder = folder
         self.path = folder / NAME
         self.next = folder / NEXT
+        self.whole = 0  # the size of the last whole state that was written
+        self.before = 0  # the size before the last addition
 
     def prepare(self, state: State) -> None:
         """Writes a whole state that is about to be fed, to a file that nobody else has open."""
@@ -241,6 +251,7 @@ class Files:
 
     def commit(self) -> None:
         """The prepared state was fed, and saved."""
+        self.whole = self.next.stat().st_size
         os.replace(self.next, self.path)
         sync_folder(self.folder)
 
@@ -250,7 +261,16 @@ class Files:
 
     def add(self, addition: Addition) -> None:
         """Writes a later batch that is about to be fed."""
+        self.before = self.path.stat().st_size
         self._write(self.path, [spell_addition(addition)], os.O_APPEND)
+
+    def take_back(self) -> None:
+        """The last addition wasn't fed, and another one is to come."""
+        os.truncate(self.path, self.before)
+
+    def is_long(self) -> bool:
+        """Whether a whole state should take the place of the additions."""
+        return self.path.stat().st_size > 2 * self.whole + ADDED_AT_MOST
 
     def is_whole(self) -> bool:
         """Whether the last line of the state wasn't cut off."""

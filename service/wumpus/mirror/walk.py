@@ -1,330 +1,405 @@
 """The walk: what is below the roots, by descriptors, without following links.
 
 What the walk says of a file was true of it at some moment of the walk, together with what it says
-of each directory on the file's path: each directory is read in a *window*, between two looks at
-all directories from `/` down to it, by name from above. A window counts where both looks see the
-same directories with the same ctimes. A directory that is seen with two different owners, modes or
-places in one walk is *torn*: it is shut, and the caller walks again.
+of each directory on the file's path: all is read in windows, as `way.py` tells. What changed in a
+window is read again, and it alone; what doesn't stand still, and what can't be seen, is kept as it
+was known and is shut. An error at one name is that name's alone.
 """
 
-import fnmatch
 import os
-import re
-import stat
 import time
 from collections.abc import Callable
-from dataclasses import dataclass
 
-from ..shared.script import DEPTH_MAX, NAME_MAX
-from .access import Access, BadList
-from .mounts import Mounts
-from .nodes import Identity, Node, Rights, Tree, device_of, identity_of
-from .way import DIRECTORY_FLAGS, NO_ENTRIES, Found, Patience, Seen, Step, Torn, Way
+from .access import BadList
+from .budget import Accounts
+from .keep import DEEPEST
+from .limits import BadRoot, Limits, places_of_roots
+from .names import FileSystems, Names, Reading
+from .nodes import ROOT, Identity, Node, Rights, Tree, device_of, identity_of, inode_of
+from .reasons import Reason
+from .remarks import Remarks, path_of
+from .seen import Entry, FreshFile, Kept, SeenDirectory
+from .visit import Listing, Remark, Visit
+from .way import DIRECTORY_FLAGS, Restless, Step, Torn, Ways
 
 ATTEMPTS = 5
-PLACE_FLAGS = os.O_PATH | os.O_NOFOLLOW | os.O_CLOEXEC
-DEEPEST = DEPTH_MAX - 1  # a directory that moves passes through one at depth 2
-
-
-class BadRoot(Exception):
-    """A root that can't be walked; the text says why."""
-
-
-@dataclass(frozen=True)
-class Limits:
-    """What a walk leaves out: patterns, other file systems, and directories by identity."""
-
-    excludes: tuple[bytes, ...] = ()
-    one_file_system: bool = False
-    omitted: frozenset[Identity] = frozenset()
-    access: Access = Access()
-
-
-def pattern_of(patterns: tuple[bytes, ...]) -> Callable[[bytes, bytes], bool]:
-    """Tells of a name and its path whether a pattern fits: one with `/` the path, else the name."""
-
-    def compiled(chosen: list[bytes]) -> re.Pattern[bytes] | None:
-        texts = [fnmatch.translate(one.decode("latin-1")).encode("latin-1") for one in chosen]
-        return re.compile(b"|".join(b"(?:%s)" % text for text in texts)) if texts else None
-
-    of_names = compiled([one for one in patterns if b"/" not in one])
-    of_paths = compiled([one for one in patterns if b"/" in one])
-
-    def fits(name: bytes, path: bytes) -> bool:
-        if of_names is not None and of_names.match(name):
-            return True
-        return of_paths is not None and of_paths.match(path) is not None
-
-    return fits
-
-
-def _is_as_known(known: Node, status: os.stat_result) -> bool:
-    """Whether nothing of a file changed since its node was made."""
-    plain = (status.st_mode & 0o7777, status.st_uid, status.st_gid)
-    same = known.changed == status.st_ctime_ns and known.size == status.st_size
-    return same and known.rights[:3] == plain
+WINDOW = 256  # directories that are read in a window
+NAMES_OF_WINDOW = 20_000
+SECONDS_OF_WINDOW = 0.5
 
 
 class Walk:
     """One walk. `top` is `/` afterwards, and `found` all that was seen, by identity.
 
-    `old` is the tree that the program has, and `known` its nodes.
+    `old` is the tree that the program has. Where `force` isn't set, what a file system that went
+    had is `held`: kept and shut.
     """
 
     def __init__(
         self,
         old: Tree,
-        known: dict[Identity, Node],
         limits: Limits,
-        warn: Callable[[str], None],
+        accounts: Accounts,
+        remarks: Remarks,
         tick: Callable[[int], None],
-        patience: Patience,
+        force: bool = False,
     ) -> None:
         self.old = old
-        self.known = known
+        self.known = {node.identity: node for node in old.nodes.values()}
         self.limits = limits
-        self.warn = warn
+        self.accounts = accounts
+        self.remarks = remarks
         self.tick = tick
-        self.fits = pattern_of(limits.excludes)
-        self.mounts = Mounts()
-        self.good: set[int] = set()  # devices of file systems that are walked
-        self.found: dict[Identity, Seen] = {}
-        self.way = Way(patience, limits.access)
-        self.torn = False
+        self.force = force
+        self.systems = FileSystems(limits.one_file_system, self._tell_of_system)
+        self.names = Names(limits, self.known, self.systems, force)
+        self.found: dict[Identity, Entry] = {}
+        self.ways = Ways(accounts, limits.access)
+        self.top: SeenDirectory | None = None
+        self.missing: dict[bytes, str] = {}  # roots that aren't there, and why
+        self.held: dict[bytes, str] = {}  # places whose file system went
         self.seen = 0
-        self.device: int | None = None
-        self.full: set[Identity] = set()  # directories that were read whole
-        descriptor = os.open(b"/", DIRECTORY_FLAGS)
-        self.top = self._directory(descriptor)
-        self.way.enter(b"/", self.top, descriptor)
+        self.waiting: list[Visit] = []
+        self.visits: dict[SeenDirectory, Visit] = {}
+        self.began = 0.0  # of the window
 
-    def close(self) -> None:
-        """Closes all that is open."""
-        while self.way.steps:
-            self.way.leave()
-        self.mounts.close()
+    def walk(self, roots: tuple[bytes, ...]) -> SeenDirectory:
+        """Walks what is below the roots: `/`, with no more names than lead there.
 
-    def root(self, path: bytes) -> None:
-        """Walks what is below a root, an absolute path of a directory.
-
-        The directories above it are seen too, with no more names than lead to it.
-        Raises `BadRoot` where the path is no such thing.
+        Raises `BadRoot` where a root is no absolute path, and where `/` doesn't stand still.
         """
-        names = [name for name in path.split(b"/") if name]
-        if not path.startswith(b"/") or any(name in (b".", b"..") for name in names):
-            raise BadRoot("a root is an absolute path without . and ..")
+        self.waiting = [Visit(None, b"/", 1, None, places_of_roots(roots))]
         try:
-            for name in names:
-                self._down(name)
-            last = self.way.steps[-1]
-            self.device = device_of(last.found.identity)
-            self._read(b"".join(b"/" + name for name in names))
-        except Torn:
-            self.torn = True
+            while self.waiting:
+                self._window()
         finally:
-            while len(self.way.steps) > 1:
-                self.way.leave()
+            self.ways.close()
+            self.systems.close()
+        if self.top is None:
+            raise BadRoot("/: it doesn't stand still")
+        return self.top
 
-    def _down(self, name: bytes) -> None:
-        """Goes down to a directory on the way to a root."""
-        above = self.way.steps[-1]
-        try:
-            descriptor = os.open(name, DIRECTORY_FLAGS, dir_fd=above.descriptor)
-        except OSError as error:
-            raise BadRoot(f"{os.fsdecode(name)}: {error.strerror}, or a symbolic link") from error
-        found = above.found.entries.get(name)
-        identity = identity_of(os.fstat(descriptor))
-        if not isinstance(found, Found) or found.identity != identity:
-            found = self.found.get(identity)
-            if not isinstance(found, Found):
-                found = self._directory(descriptor)
-            above.found.entries[name] = found
-        self.way.enter(name, found, descriptor)
+    # ---- windows
 
-    def _directory(self, descriptor: int) -> Found:
-        """What is seen of the directory that is open there, with its rights."""
-        torn = not self.way.patience.wait_until_old(os.fstat(descriptor))
-        status = os.fstat(descriptor)
-        identity = identity_of(status)
-        known = self.known.get(identity)
-        mode = self.limits.access.mode_of_directory(status)
-        plain = (mode, status.st_uid, status.st_gid)
-        if known is not None and not known.is_directory:
-            known = None
-        if known is not None and known.changed == status.st_ctime_ns and known.rights[:3] == plain:
-            rights = known.rights
-        else:
-            try:
-                rights = self.limits.access.of_directory(descriptor, status)
-            except (BadList, OSError) as error:
-                self.warn(f"an access list that can't be read: {error}")
-                rights, torn = Rights(0, status.st_uid, status.st_gid), True
-        self.torn = self.torn or torn
-        found = Found(identity, True, known, rights, status.st_ctime_ns, 0, torn)
-        self.found[identity] = found
-        return found
-
-    def _read(self, path: bytes) -> None:
-        """Reads the directory at the end of the way, and all below it."""
-        here = self.way.steps[-1]
-        if here.found.identity in self.full:
-            return
-        self.full.add(here.found.identity)
-        directories = self._window(here, path)
-        self.seen += len(here.found.entries)
-        self.tick(self.seen)
-        for name in directories:
-            self._visit(here, name, path + b"/" + name)
-
-    def _window(self, here: Step, path: bytes) -> list[bytes]:
-        """Reads the names of a directory in a window, and gives those of directories."""
-        kept = dict(here.found.entries)  # names that lead to other roots
-        count = len(self.found)
-        self.mounts.refresh()
-        directories: list[bytes] = []
-        for _ in range(ATTEMPTS):
-            began = time.monotonic()
-            before = self.way.look()
-            here.found.entries = dict(kept)
-            while len(self.found) > count:
-                self.found.popitem()
-            try:
-                directories = self._names(here, path)
-            except OSError as error:
-                self.warn(f"{os.fsdecode(path) or '/'}: {error.strerror}")
-                return []
-            for name in kept.keys() - set(directories) - self.mounts.left_out_in(path).keys():
-                here.found.entries.pop(name, None)
-            if self.way.look() == before:
-                return directories
-            if not self.way.patience.is_left_for(here.found, began):
+    def _window(self) -> None:
+        """Reads as many directories as go into a window, and takes those that stood still."""
+        self.began = time.monotonic()
+        self.systems.refresh()
+        room = WINDOW >> 3 * self.waiting[-1].attempts or 1
+        listings: list[Listing] = []
+        names = 0
+        while self.waiting and len(listings) < room and names < NAMES_OF_WINDOW:
+            visit = self.waiting[-1]
+            if visit.attempts and listings or self._spent() > SECONDS_OF_WINDOW:
                 break
-        here.found.torn = True
-        self.torn = True
-        return directories
+            self.waiting.pop()
+            listing = self._visit(visit)
+            if listing is not None:
+                listings.append(listing)
+                names += len(listing.directory.entries)
+        self.ways.look()
+        self._end_window(listings)
+        self.tick(self.seen)
+        self.ways.keep(self.waiting[-1].above if self.waiting else None)
 
-    def _names(self, here: Step, path: bytes) -> list[bytes]:
-        """The files of a directory, as its entries, and the names of its directories."""
-        directories = []
-        entries = here.found.entries
-        known = here.found.known
-        names = self.old.entries.get(known.number, {}) if known is not None else {}
-        kept = {name: name for name in names}  # a name that was known isn't kept twice
-        patterned = bool(self.limits.excludes)
-        left_out = self.mounts.left_out_in(path)
-        device = device_of(here.found.identity)
-        with os.scandir(here.descriptor) as listing:
-            for entry in listing:
-                name = os.fsencode(entry.name)
-                name = kept.get(name, name)
-                if patterned and self.fits(name, path + b"/" + name):
-                    entries.pop(name, None)
-                elif name in left_out:
-                    self._tell_of_system(path + b"/" + name, left_out[name])
-                elif len(name) > NAME_MAX:
-                    self.warn(f"{os.fsdecode(path)}: a name over 255 bytes is left out")
-                elif entry.is_dir(follow_symlinks=False):
-                    directories.append(name)
-                elif entry.is_file(follow_symlinks=False):
-                    try:
-                        status = entry.stat(follow_symlinks=False)
-                    except FileNotFoundError:
-                        continue
-                    if not stat.S_ISREG(status.st_mode):
-                        continue
-                    if status.st_dev == device or self._is_walked(
-                        here, name, path + b"/" + name, status
-                    ):
-                        entries[name] = self._file(status)
-        return directories
+    def _spent(self) -> float:
+        return time.monotonic() - self.began
 
-    def _file(self, status: os.stat_result) -> Seen:
-        """What is seen of a file. Where it was seen with another status, it is torn."""
-        identity = identity_of(status)
-        seen = self.found.get(identity)
-        if seen is None or isinstance(seen, Found) and seen.is_directory:
-            seen = self._first_seen(identity, status)
-            self.found[seen.identity] = seen  # one object is both key and field
-        elif isinstance(seen, Found):
-            if seen.changed != status.st_ctime_ns:
-                seen.torn = self.torn = True
-        elif not _is_as_known(seen, status):
-            seen = self._fresh(identity, status, seen)
-            seen.torn = self.torn = True
-            self.found[identity] = seen
-        return seen
+    def _end_window(self, listings: list[Listing]) -> None:
+        """Takes what stood still, and has the rest read again."""
+        read = {listing.directory for listing in listings}
+        for step in list(self.ways.steps.values()):
+            if step.is_broken and step.directory not in read and not step.directory.is_forgotten:
+                self._break(step.directory)
+        causes: set[SeenDirectory] = set()
+        for listing in listings:
+            directory, above = listing.directory, listing.visit.above
+            if above is not None and above.is_forgotten:
+                directory.is_forgotten = True  # it is read again from there
+                continue
+            cause = self.ways.steps[directory].cause
+            if cause is None:
+                self._accept(listing)
+                continue
+            directory.is_forgotten = True
+            self._again(listing.visit, directory, cause.directory, causes)
 
-    def _first_seen(self, identity: Identity, status: os.stat_result) -> Seen:
-        """The file's node, where its status is the known one."""
+    def _again(
+        self,
+        visit: Visit,
+        directory: SeenDirectory | None,
+        cause: SeenDirectory,
+        counted: set[SeenDirectory] | None = None,
+    ) -> None:
+        """Has a directory read again, as long as the owner of the cause has patience left."""
+        account = self.ways.account_of(cause)
+        if counted is None or cause not in counted:
+            self.accounts.wait(account, self._spent())
+        if counted is not None:
+            counted.add(cause)
+        if visit.attempts + 1 < ATTEMPTS and self.accounts.is_patient(account):
+            self.waiting.append(visit._replace(attempts=visit.attempts + 1))
+            return
+        number = directory.number if directory is not None else 0
+        self._keep(visit, Reason.TORN, cause.rights.owner, number)
+
+    def _break(self, directory: SeenDirectory) -> None:
+        """Forgets a directory that isn't what it was when it was read, and reads it again."""
+        visit = self.visits[directory]
+        self._forget(directory)
+        if visit.above is not None and not visit.above.is_forgotten:
+            visit.above.entries.pop(directory.name, None)
+            self._again(visit, directory, directory)
+        elif visit.above is None:
+            self.top = None
+            self._again(visit, directory, directory)
+
+    def _forget(self, directory: SeenDirectory) -> None:
+        """Forgets a directory and those below it."""
+        waiting = [directory]
+        while waiting:
+            one = waiting.pop()
+            one.is_forgotten = True
+            self.visits.pop(one, None)
+            if self.found.get(one.identity) is one:
+                del self.found[one.identity]
+            waiting += [child for child in one.entries.values() if isinstance(child, SeenDirectory)]
+
+    def _keep(
+        self, visit: Visit, why: Reason, owner: int | None = None, number: int = 0
+    ) -> None:
+        """Keeps what is known of a directory that isn't seen: nothing where nothing is known."""
+        above = visit.above
+        if above is None:
+            return
+        number = number or self._known_at(above, visit.name)
+        above.entries.pop(visit.name, None)
+        if number:
+            above.entries[visit.name] = Kept(number, why)
+        if owner is None:
+            owner = self.old.nodes[number].rights.owner if number else above.rights.owner
+        self.remarks.shut(why, owner, above, visit.name)
+
+    def _known_at(self, above: SeenDirectory | None, name: bytes) -> int:
+        """The number of the node that the program has there, or 0."""
+        if above is None:
+            return 0
+        return self.old.entries.get(above.number, {}).get(name, 0)
+
+    # ---- one directory
+
+    def _visit(self, visit: Visit) -> Listing | None:
+        """Opens and reads a directory; None where it is left out, or is kept as it was."""
+        above = visit.above
+        if above is not None and above.is_forgotten:
+            return None
+        try:
+            step = None if above is None else self.ways.reach(above)
+        except Torn as torn:
+            self._break(torn.directory)
+            return None
+        if visit.depth > DEEPEST:
+            self.remarks.leave_out(path_of(above, visit.name), Reason.DEEP.sentence)
+            return None
+        try:
+            where = None if step is None else step.descriptor
+            descriptor = os.open(visit.name, DIRECTORY_FLAGS, dir_fd=where)
+        except OSError as error:
+            self._unreadable(visit, error)
+            return None
+        listing = self._open(visit, step, descriptor)
+        if listing is None:
+            os.close(descriptor)
+            return None
+        directory = listing.directory
+        self.visits[directory] = visit
+        self._list(listing, self.ways.enter(directory, descriptor, step))
+        return listing
+
+    def _open(self, visit: Visit, step: Step | None, descriptor: int) -> Listing | None:
+        """What is seen of the directory that is open there, before its names are read."""
+        try:
+            status = self.ways.settled(descriptor)
+            identity = identity_of(status)
+            if identity in self.limits.omitted or not self._is_walked(visit, step, status):
+                return None
+            if isinstance(self.found.get(identity), SeenDirectory):
+                self.remarks.leave_out(path_of(visit.above, visit.name), Reason.TWICE.sentence)
+                return None
+            if self._is_held(visit, identity):
+                self._keep(visit, Reason.HELD)
+                return None
+            return self._directory(visit, descriptor, status)
+        except Restless:
+            self._keep(visit, Reason.TORN)
+        except OSError as error:
+            self._unreadable(visit, error)
+        return None
+
+    def _directory(
+        self, visit: Visit, descriptor: int, status: os.stat_result
+    ) -> Listing | None:
+        """The directory with its rights, where its owner has room and time. Raises `OSError`."""
+        identity, owner = identity_of(status), status.st_uid
         known = self.known.get(identity)
-        if known is None or known.is_directory:
-            return self._fresh(identity, status, None)
-        return known if _is_as_known(known, status) else self._fresh(identity, status, known)
+        number = ROOT if visit.above is None else 0
+        if known is not None and known.is_directory and known.number != ROOT:
+            number = known.number
+        is_known = number != 0 and self._known_at(visit.above, visit.name) == number
+        account = self.accounts.of_owner(owner)
+        if not account.has_directory(is_known):
+            self._keep(visit, Reason.DIRECTORIES, owner, number)
+            return None
+        if self.accounts.of_directory(owner, status.st_mode, identity).seconds <= 0:
+            self._keep(visit, Reason.SECONDS, owner, number)
+            return None
+        rights, remarks = self._rights(known, descriptor, status)
+        directory = SeenDirectory(
+            visit.above, visit.name, identity, rights, status.st_ctime_ns, number
+        )
+        return Listing(directory, visit, is_known, remarks)
 
-    @staticmethod
-    def _fresh(identity: Identity, status: os.stat_result, known: Node | None) -> Found:
-        """A file that has to be looked at."""
-        changed, size = status.st_ctime_ns, status.st_size
-        return Found(identity, False, known, None, changed, size, entries=NO_ENTRIES)
-
-    def _visit(self, here: Step, name: bytes, path: bytes) -> None:
-        """Walks a directory below the one that is read."""
-        if len(self.way.steps) >= DEEPEST:
-            self.warn(f"{os.fsdecode(path[:200])}..: too deep, it is left out")
-            return
+    def _rights(
+        self, known: Node | None, descriptor: int, status: os.stat_result
+    ) -> tuple[Rights, list[Remark]]:
+        """A directory's rights: none, and a remark, where the program can't be told of them."""
+        access = self.limits.access
+        plain = (access.mode_of_directory(status), status.st_uid, status.st_gid)
+        if known is not None and known.is_directory and known.changed == status.st_ctime_ns:
+            if known.rights[:3] == plain:
+                return known.rights, []
         try:
-            descriptor = os.open(name, DIRECTORY_FLAGS, dir_fd=here.descriptor)
-        except OSError as error:
-            self.warn(f"{os.fsdecode(path)}: {error.strerror}")
-            return
-        status = os.fstat(descriptor)
-        identity = identity_of(status)
-        if identity in self.limits.omitted or not self._is_walked(here, name, path, status):
-            os.close(descriptor)
-            here.found.entries.pop(name, None)
-            return
-        found = here.found.entries.get(name)
-        if not isinstance(found, Found) or found.identity != identity:
-            if identity in self.found:
-                self.warn(f"{os.fsdecode(path)}: in two places, it is taken once")
-                os.close(descriptor)
-                return
-            found = self._directory(descriptor)
-            here.found.entries[name] = found
-        self.way.enter(name, found, descriptor)
-        try:
-            self._read(path)
-        except Torn:
-            self.torn = True
-            if any(step.found.torn for step in self.way.steps[:-1]):
-                raise
-        finally:
-            self.way.leave()
+            return access.of_directory(descriptor, status), []
+        except BadList:
+            owner = status.st_uid
+            return Rights(0, owner, status.st_gid), [(Reason.LIST, owner, b"")]
 
-    def _is_walked(self, here: Step, name: bytes, path: bytes, status: os.stat_result) -> bool:
-        """Whether what has the name in a directory is on a file system that is walked.
+    def _unreadable(self, visit: Visit, error: OSError) -> None:
+        """A directory that can't be opened, or looked at."""
+        if visit.place is not None:
+            path = path_of(visit.above, visit.name)
+            told = f"{os.fsdecode(path)}: {error.strerror}, or a symbolic link"
+            self.missing[path] = told
+        self._keep(visit, Reason.UNREADABLE)
 
-        `path` is its own. Where it isn't, that is told.
+    # ---- what is left out
+
+    def _is_walked(self, visit: Visit, step: Step | None, status: os.stat_result) -> bool:
+        """Whether a directory is on a file system that is walked. Raises `OSError`.
+
+        What is hidden by one that isn't is kept and shut; what was mirrored of that one goes.
         """
-        if status.st_dev == self.device:
+        if visit.place is not None or step is None or status.st_dev == visit.device:
             return True
-        if not self.limits.one_file_system and status.st_dev in self.good:
+        if self.systems.is_walked(step, visit.name, status.st_dev):
             return True
-        try:
-            descriptor = os.open(name, PLACE_FLAGS, dir_fd=here.descriptor)
-        except OSError as error:
-            self.warn(f"{os.fsdecode(path)}: {error.strerror}")
-            return False
-        try:
-            mount = self.mounts.of(descriptor)
-        finally:
-            os.close(descriptor)
-        if mount is not None and mount.is_good and not self.limits.one_file_system:
-            self.good.add(status.st_dev)
-            return True
-        self._tell_of_system(path, mount.kind if mount is not None else "unknown")
+        number = self._known_at(step.directory, visit.name)
+        if number and not self.force and device_of(self.old.nodes[number].identity) != status.st_dev:
+            self._keep(visit, Reason.COVERED)
         return False
 
-    def _tell_of_system(self, path: bytes, kind: str) -> None:
-        """Warns of the boundary of a file system that is left out."""
-        self.warn(f"{os.fsdecode(path)}: a file system that is left out ({kind})")
+    def _tell_of_system(self, directory: SeenDirectory, name: bytes, kind: str) -> None:
+        """Tells of the boundary of a file system that is left out."""
+        path = path_of(directory, name)
+        self.remarks.leave_out(path, f"a file system that is left out ({kind})")
+
+    def _is_held(self, visit: Visit, identity: Identity) -> bool:
+        """Whether another file system was there before, whose files are gone with it.
+
+        Where only the device has another number, as after a start of the machine, it is the same.
+        """
+        number = self._known_at(visit.above, visit.name)
+        if self.force or visit.above is None or not number:
+            return False
+        before = self.old.nodes[number].identity
+        if device_of(before) == device_of(identity) or inode_of(before) == inode_of(identity):
+            return False
+        above_before = self.old.nodes[visit.above.number].identity
+        was_mounted = device_of(before) != device_of(above_before)
+        is_mounted = device_of(identity) != device_of(visit.above.identity)
+        is_root = visit.place is not None and visit.place.is_root
+        if is_root or was_mounted and not is_mounted:
+            path = path_of(visit.above, visit.name)
+            self.held[path] = f"{os.fsdecode(path)}: another file system was there before"
+            return True
+        return False
+
+    def _list(self, listing: Listing, step: Step) -> None:
+        """Reads the names of a directory: its files, and visits of its directories."""
+        directory, visit = listing.directory, listing.visit
+        places = visit.place.below if visit.place is not None else {}
+        device = visit.device
+        fresh: list[Visit] = []
+        known: list[Visit] = []
+        names = self.old.entries.get(directory.number, {})
+        if visit.place is None or visit.place.is_root:
+            if visit.place is not None:
+                device = device_of(directory.identity)
+            reading = Reading(listing, names, self.accounts, self.ways.account_of(directory))
+            for name in self.names.read(reading, step, places):
+                one = Visit(directory, name, visit.depth + 1, device, None)
+                (known if name in names else fresh).append(one)
+        ways = [
+            Visit(directory, name, visit.depth + 1, device, place)
+            for name, place in places.items()
+        ]
+        self.waiting += [*fresh[::-1], *known[::-1], *ways]
+
+    # ---- what stood still
+
+    def _accept(self, listing: Listing) -> None:
+        """Takes a directory, with the names that were read of it."""
+        directory, above = listing.directory, listing.visit.above
+        if isinstance(self.found.get(directory.identity), SeenDirectory):
+            directory.is_forgotten = True
+            self.remarks.leave_out(path_of(above, directory.name), Reason.TWICE.sentence)
+            return
+        self.found[directory.identity] = directory
+        if above is None:
+            self.top = directory
+        else:
+            above.entries[directory.name] = directory
+            account = self.accounts.of_owner(directory.rights.owner)
+            account.take_name(listing.is_known)
+            account.take_directory(listing.is_known)
+        for why, owner, name in listing.remarks:
+            if name:
+                self.remarks.shut(why, owner, directory, name)
+            else:
+                self.remarks.shut(why, owner, above, directory.name)
+        self._accept_files(directory)
+        self.seen += len(directory.entries)
+
+    def _accept_files(self, directory: SeenDirectory) -> None:
+        """Takes the files of a directory, of each owner as many as she has room for."""
+        names = self.old.entries.get(directory.number, {})
+        entries = directory.entries
+        last, account = 0, self.accounts.of_owner(0)
+        for name, entry in list(entries.items()):
+            if isinstance(entry, Kept | SeenDirectory):
+                continue
+            owner = entry.rights.owner if isinstance(entry, Node) else entry.owner
+            if owner != last:
+                last, account = owner, self.accounts.of_owner(owner)
+            is_known = entry.number != 0 and names.get(name) == entry.number
+            if not account.take_name(is_known):
+                del entries[name]
+                if is_known:
+                    entries[name] = Kept(entry.number, Reason.NAMES)
+                self.remarks.shut(Reason.NAMES, owner, directory, name)
+                continue
+            seen = self.found.get(entry.identity)
+            if seen is None:
+                self.found[entry.identity] = entry
+            elif seen is not entry:
+                entries[name] = self._one_file(seen, entry)
+
+    def _one_file(self, seen: Entry, entry: Node | FreshFile) -> Entry:
+        """A file that was seen by two names: it is torn where the names showed two statuses."""
+        if isinstance(seen, FreshFile):
+            seen.is_torn = seen.is_torn or seen.changed != entry.changed
+            return seen
+        self.found[entry.identity] = entry
+        if isinstance(seen, Node) and isinstance(entry, FreshFile):
+            entry.is_torn = True
+        return entry

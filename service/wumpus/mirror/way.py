@@ -1,159 +1,172 @@
-"""The way to a directory: those from `/` down to it, each held open and looked at by its name.
+"""Windows: what was true of directories, from `/` down, between two looks at them.
+
+All that is read lies in a window. At its beginning each directory on the ways to what is read is
+opened by its name in the one above; at its end each is looked at by that name once more. What was
+read below directories that are the same, with the same ctime, was true at one moment together with
+all that was seen of them. A window may have very many directories: each is looked at once.
 
 That a ctime tells of each change holds once the clock has gone on since: what changed in the last
 50 ms is waited for.
 """
 
 import os
-import time
-from dataclasses import dataclass, field
+from dataclasses import dataclass
 
 from .access import Access, BadList
-from .nodes import Identity, Node, Rights, identity_of
+from .budget import Account, Accounts
+from .nodes import Rights, identity_of
+from .seen import SeenDirectory
 
-YOUNG = 50_000_000  # nanoseconds in which two changes may have one ctime
-SECONDS_OF_OWNER = 2.0  # that a walk, or the looks of a turn, give to what one user owns
-SECONDS_OF_ALL = 30.0  # and to what all own
 DIRECTORY_FLAGS = os.O_RDONLY | os.O_DIRECTORY | os.O_NOFOLLOW | os.O_CLOEXEC
 
 
 class Torn(Exception):
-    """A directory isn't where, or what, the walk saw first."""
+    """A directory isn't where, or what, it was seen to be first."""
+
+    def __init__(self, directory: SeenDirectory) -> None:
+        super().__init__()
+        self.directory = directory
 
 
-@dataclass(slots=True)
-class Found:
-    """A directory that the walk saw, or a file that has to be looked at.
-
-    `known` is the node that it is known as. A file whose status is the known one has no `Found`:
-    its node itself stands for it. `rights` are a directory's own. `number` and `links`, the count
-    of its names, are set when the walk is done.
-    """
-
-    identity: Identity
-    is_directory: bool
-    known: Node | None
-    rights: Rights | None
-    changed: int
-    size: int
-    torn: bool = False
-    links: int = 0
-    number: int = 0
-    entries: "dict[bytes, Seen]" = field(default_factory=dict)
+class Restless(Exception):
+    """Something changed just now, and its owner has no more time to be waited for."""
 
 
-Seen = Found | Node
-NO_ENTRIES: dict[bytes, Seen] = {}  # of all files
-
-
-@dataclass(slots=True)
+@dataclass(slots=True, eq=False)
 class Step:
-    """A directory on the way from `/` to the one that is read, open at `descriptor`."""
+    """A directory that is held open, and its ctime at the beginning of the window.
 
-    descriptor: int
-    name: bytes
-    found: Found
-    changed: int
-
-
-class Patience:
-    """How long one turn waits for what doesn't stand still: so much of each owner, and of all.
-
-    What user 0 owns, as a directory where everybody may make files, counts by itself.
+    After the look that ends a window, `cause` is the highest directory on the way that changed in
+    it, or None. It is broken where it isn't the directory that was seen, with the same rights.
     """
 
-    def __init__(self) -> None:
-        self.spent: dict[int, float] = {}  # by owner, or by what user 0 owns
-        self.all = 0.0
-        self.is_spent = False
+    directory: SeenDirectory
+    descriptor: int
+    above: "Step | None"
+    changed: int
+    cause: "Step | None" = None
+    is_broken: bool = False
 
-    def spend(self, owner: int, identity: Identity, seconds: float) -> bool:
-        """Counts the seconds of something: whether there is more for its owner."""
-        whose = owner or identity
-        self.all += seconds
-        self.spent[whose] = self.spent.get(whose, 0.0) + seconds
-        is_left = self.spent[whose] < SECONDS_OF_OWNER and self.all < SECONDS_OF_ALL
-        self.is_spent = self.is_spent or not is_left
-        return is_left
 
-    def wait_until_old(self, status: os.stat_result) -> bool:
-        """Waits until a change that comes now has another ctime than this one.
+class Ways:
+    """The directories that are held open, each after those above it."""
 
-        False where its owner has no more time: then it isn't waited for.
-        """
-        age = time.time_ns() - status.st_ctime_ns
-        if not 0 <= age < YOUNG:
-            return True
-        if not self.spend(status.st_uid, identity_of(status), 0.0):
+    def __init__(self, accounts: Accounts, access: Access) -> None:
+        self.accounts = accounts
+        self.access = access
+        self.steps: dict[SeenDirectory, Step] = {}
+
+    def account_of(self, directory: SeenDirectory) -> Account:
+        """The account to which a directory's time counts."""
+        rights = directory.rights
+        return self.accounts.of_directory(rights.owner, rights.mode, directory.identity)
+
+    def settled(self, descriptor: int) -> os.stat_result:
+        """The status of what is open there, once it is old. Raises `Restless`, and `OSError`."""
+        status = os.fstat(descriptor)
+        while True:
+            account = self.accounts.of_directory(
+                status.st_uid, status.st_mode, identity_of(status)
+            )
+            if not self.accounts.wait_for(account, status.st_ctime_ns):
+                raise Restless
+            before, status = status, os.fstat(descriptor)
+            if status.st_ctime_ns == before.st_ctime_ns:
+                return status
+
+    def enter(self, directory: SeenDirectory, descriptor: int, above: Step | None) -> Step:
+        """Holds open a directory that was seen just now, with this descriptor."""
+        step = Step(directory, descriptor, above, directory.changed)
+        self.steps[directory] = step
+        return step
+
+    def reach(self, directory: SeenDirectory) -> Step:
+        """Opens the way to a directory; what is open of it stays so. Raises `Torn`."""
+        found = self.steps.get(directory)
+        if found is not None:
+            return found
+        above: Step | None = None
+        for one in directory.way():
+            step = self.steps.get(one)
+            above = step if step is not None else self._open(one, above)
+        if above is None:
+            raise Torn(directory)
+        return above
+
+    def _open(self, directory: SeenDirectory, above: Step | None) -> Step:
+        """Opens one directory again. Raises `Torn`."""
+        if directory.is_forgotten:
+            raise Torn(directory)
+        try:
+            where = None if above is None else above.descriptor
+            descriptor = os.open(directory.name, DIRECTORY_FLAGS, dir_fd=where)
+        except OSError as error:
+            raise Torn(directory) from error
+        try:
+            is_same = self._is_same(directory, descriptor)
+        except BaseException:
+            os.close(descriptor)
+            raise
+        if not is_same:
+            os.close(descriptor)
+            raise Torn(directory)
+        return self.enter(directory, descriptor, above)
+
+    def _is_same(self, directory: SeenDirectory, descriptor: int) -> bool:
+        """Whether it is the directory that was seen, with the same rights; its ctime is kept."""
+        try:
+            status = os.fstat(descriptor)
+            if identity_of(status) != directory.identity:
+                return False
+            if status.st_ctime_ns != directory.changed:
+                status = self.settled(descriptor)
+                if self._rights(descriptor, status) != directory.rights:
+                    return False
+                directory.changed = status.st_ctime_ns
+        except (OSError, Restless):
             return False
-        time.sleep((YOUNG - age) / 1e9)
-        self.spend(status.st_uid, identity_of(status), (YOUNG - age) / 1e9)
         return True
 
-    def is_left_for(self, found: Found, began: float) -> bool:
-        """Counts the time since then for a directory: whether there is more for its owner."""
-        assert found.rights is not None
-        return self.spend(found.rights.owner, found.identity, time.monotonic() - began)
-
-
-class Way:
-    """The directories from `/` to the one that is read, each held open."""
-
-    def __init__(self, patience: Patience, access: Access) -> None:
-        self.steps: list[Step] = []
-        self.patience = patience
-        self.access = access
-
-    def look(self) -> list[int]:
-        """The ctimes of all directories on the way, by name from above.
-
-        Raises `Torn` where one isn't the directory that was seen first, or has other rights.
-        """
-        seen = []
-        for place, step in enumerate(self.steps):
-            status = self._status(place, step)
-            if status.st_ctime_ns != step.changed:
-                self._compare(step, status)
-            if not self.patience.wait_until_old(status):
-                self._tear(step.found)
-                raise Torn
-            seen.append(status.st_ctime_ns)
-        return seen
-
-    def _status(self, place: int, step: Step) -> os.stat_result:
-        """The status of what has the step's name now."""
-        if place == 0:
-            return os.fstat(step.descriptor)
-        above = self.steps[place - 1].descriptor
+    def _rights(self, descriptor: int, status: os.stat_result) -> Rights:
+        """A directory's rights; none where the program can't be told of them. Raises `OSError`."""
         try:
-            status = os.stat(step.name, dir_fd=above, follow_symlinks=False)
-        except OSError as error:
-            self._tear(step.found)
-            raise Torn from error
-        if identity_of(status) != step.found.identity:
-            self._tear(step.found)
-            raise Torn
-        return status
+            return self.access.of_directory(descriptor, status)
+        except BadList:
+            return Rights(0, status.st_uid, status.st_gid)
 
-    def _compare(self, step: Step, status: os.stat_result) -> None:
-        """Accepts a directory whose ctime is another one where its rights are the same."""
+    def look(self) -> None:
+        """Ends a window and begins the next one: looks at each directory by its name once more."""
+        for step in self.steps.values():
+            changed, step.is_broken = self._look_at(step)
+            above = step.above.cause if step.above is not None else None
+            step.cause = above or (step if changed else None)
+
+    def _look_at(self, step: Step) -> tuple[bool, bool]:
+        """Whether it changed in the window, and whether it is broken."""
         try:
-            rights = self.access.of_directory(step.descriptor, status)
-        except (BadList, OSError):
-            rights = None
-        if rights is None or rights != step.found.rights:
-            self._tear(step.found)
-            raise Torn
-        step.changed = status.st_ctime_ns
+            if step.above is None:
+                status = os.fstat(step.descriptor)
+            else:
+                name, where = step.directory.name, step.above.descriptor
+                status = os.stat(name, dir_fd=where, follow_symlinks=False)
+        except OSError:
+            return True, True
+        if identity_of(status) != step.directory.identity:
+            return True, True
+        if status.st_ctime_ns == step.changed:
+            return False, False
+        is_same = self._is_same(step.directory, step.descriptor)
+        step.changed = step.directory.changed
+        return True, not is_same
 
-    @staticmethod
-    def _tear(found: Found) -> None:
-        found.torn = True
+    def keep(self, directory: SeenDirectory | None) -> None:
+        """Closes all but the way to a directory."""
+        staying = set() if directory is None else set(directory.way())
+        for one, step in list(self.steps.items()):
+            if one not in staying:
+                os.close(step.descriptor)
+                del self.steps[one]
 
-    def enter(self, name: bytes, found: Found, descriptor: int) -> None:
-        """Goes down to a directory that is open there."""
-        self.steps.append(Step(descriptor, name, found, found.changed))
-
-    def leave(self) -> None:
-        """Goes up again."""
-        os.close(self.steps.pop().descriptor)
+    def close(self) -> None:
+        """Closes all that is open."""
+        self.keep(None)

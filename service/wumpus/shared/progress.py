@@ -1,10 +1,14 @@
 """What is told on standard error: warnings, and how far the mirror is where that is a terminal."""
 
+import os
 import sys
 import time
+from collections import Counter
 
 EVERY = 0.1
 WARNINGS = 1000  # of one turn: names are of users, who can make any number of them
+OF_ONE_KIND = 5  # paths of which the same is told in a turn
+PATH_SHOWN = 400  # bytes of a path
 
 
 class Progress:
@@ -18,6 +22,8 @@ class Progress:
         self.wide = 0
         self.warned: set[str] = set()  # in this turn
         self.before: set[str] = set()  # in the one before
+        self.kinds: Counter[str] = Counter()  # paths of each kind, in this turn
+        self.counts: dict[str, int] = {}  # how many more there were of each kind, as was told
 
     def tell(self, text: str) -> None:
         """Shows how far it is, at most ten times a second."""
@@ -50,9 +56,26 @@ class Progress:
         self.clear()
         print(f"{self.program}: {plain(text)}", file=sys.stderr)
 
+    def warn_of(self, kind: str, path: bytes) -> None:
+        """Tells of a path, and what is the matter with it: of each kind the first few."""
+        self.kinds[kind] += 1
+        if self.kinds[kind] <= OF_ONE_KIND:
+            shown = path if len(path) <= PATH_SHOWN else path[:PATH_SHOWN] + b".."
+            self.warn(f"{os.fsdecode(shown)}: {kind}")
+
+    def end_turn(self) -> None:
+        """Tells how many more paths there were of each kind, where that is another number."""
+        more = {kind: count - OF_ONE_KIND for kind, count in self.kinds.items()}
+        for kind, count in more.items():
+            if count > 0 and self.counts.get(kind) != count and not self.quiet:
+                self.clear()
+                print(f"{self.program}: {count} more: {kind}", file=sys.stderr)
+        self.counts = more
+
     def next_turn(self) -> None:
         """What the last turn warned of isn't told again, and what was before it is forgotten."""
         self.before, self.warned = self.warned, set()
+        self.kinds = Counter()
 
 
 def plain(text: str) -> str:

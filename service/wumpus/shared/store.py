@@ -24,16 +24,20 @@ class Failed(Exception):
     """What was asked of the program wasn't done; the text says why."""
 
 
+class Busy(Failed):
+    """Another process does it already."""
+
+
 @contextlib.contextmanager
 def only_one(path: Path, who: str) -> Iterator[None]:
-    """Holds the lock of a file, which is made. Raises `Failed` where another process has it."""
+    """Holds the lock of a file, which is made. Raises `Busy` where another process has it."""
     # Reading is enough for a lock, and so one that user 0 made is no hindrance to the unit's user.
     flags = os.O_RDONLY | os.O_CREAT | os.O_NOFOLLOW | os.O_CLOEXEC
     with open(os.open(path, flags, 0o644), "rb") as lock:
         try:
             fcntl.flock(lock, fcntl.LOCK_EX | fcntl.LOCK_NB)
         except BlockingIOError as error:
-            raise Failed(f"{who} is at work in {path.parent}") from error
+            raise Busy(f"{who} is at work in {path.parent}") from error
         yield
 
 

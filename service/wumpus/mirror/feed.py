@@ -1,0 +1,181 @@
+"""What the program has, and how it is brought to have something else: batch by batch.
+
+The state of after a batch is written before the batch is fed. Which state is true the program
+tells, by the serial of its last batch.
+"""
+
+from pathlib import Path
+
+from ..shared.progress import Progress
+from ..shared.script import spell
+from ..shared.store import Failed
+from .batch import SAVE, Batch, Texts, begin, end, question
+from .nodes import MARK, ROOT, Node, Tree
+from .plan import Groups, Pairs, Plan, plan_all, plan_nodes
+from .reach import NoMemory, Reach
+from .state import Addition, BadState, Files, State, apply, new_serial, read_state
+
+LINES_AT_LEAST = 1000  # of a piece of a batch for which memory is short
+
+
+class Feeder:
+    """The program, and `state`: what it has. `files` has the state between two runs."""
+
+    def __init__(self, reach: Reach, folder: Path, progress: Progress) -> None:
+        self.reach = reach
+        self.folder = folder
+        self.files = Files(folder)
+        self.progress = progress
+        self.state = State()
+        self.batches = 0
+
+    # ---- where the program stands
+
+    def begin(self, anew: bool, dry: bool = False) -> None:
+        """Finds out where the program stands. Raises `Failed`, and `BadState`.
+
+        Where that isn't known all is fed anew; before a dry run nothing is moved aside for it.
+        """
+        found = None if anew else self._stand()
+        if found is None:
+            if not dry:
+                self._anew(anew)
+            found = State()
+        self.state = found
+        node = MARK if found.serial else ROOT
+        reply = self.reach.ask(spell(b"acl", node, b""))
+        if reply not in (b"ok", b"refused\tsyntax"):
+            raise Failed(f"the program answered {reply!r} to an access list")
+        self.state.lists = reply == b"ok"
+
+    def _anew(self, wanted: bool) -> None:
+        """Begins with an empty store; one that no mirror filled is moved aside where that's wanted.
+
+        Raises `Failed` where it isn't.
+        """
+        if self.files.path.exists() or wanted:
+            self.progress.warn("the store isn't as the mirror left it; all is fed anew")
+            self.reach.reset()
+        elif self.reach.ask(b"stat\n").split(b"\t")[:2] != [b"stat", b"0"]:
+            raise Failed("the store has files that no mirror put there: --anew moves it aside")
+        self.files.forget()
+
+    def _stand(self) -> State | None:
+        """The state that the program is in, of those that are written."""
+        prepared = self._prepared()
+        if prepared is not None and self._is_at(prepared.serial):
+            self.files.commit()
+            return prepared
+        self.files.drop()
+        written = read_state(self.files.path)
+        if written is None:
+            return None
+        state, additions = written
+        serials = [state.serial, *(addition.serial for addition in additions)]
+        for count in reversed(range(len(serials))):
+            if self._is_at(serials[count]):
+                for addition in additions[:count]:
+                    apply(state, addition)
+                if additions or not self.files.is_whole():
+                    self.files.prepare(state)
+                    self.files.commit()
+                return state
+        return None
+
+    def _prepared(self) -> State | None:
+        """The state that was about to be fed; one that was cut off was never fed."""
+        try:
+            found = read_state(self.files.next)
+        except BadState:
+            return None
+        return found[0] if found is not None else None
+
+    def _is_at(self, serial: str) -> bool:
+        return self.reach.ask(question(serial)) == b"ok"
+
+    # ---- batches
+
+    def feed_tree(self, tree: Tree, users: Groups, following: int, unlisted: bool) -> None:
+        """Brings the program to a tree and users: names and rights in one batch, and no text."""
+        old = self.state
+        plan = plan_all(old.tree, tree, old.users, users)
+        new = State(old.serial, tree, users, following, old.lists, unlisted, old.complete)
+        nodes = old.tree.nodes
+        changed = [node for number, node in tree.nodes.items() if nodes.get(number) is not node]
+        is_fed = not plan.is_empty() or not old.serial
+        if is_fed:
+            new.serial = new_serial(old.serial)
+        is_small = old.serial and users == old.users and unlisted == old.unlisted
+        is_small = is_small and not self.files.is_long()
+        if is_small and _have_same_names(old.tree, tree):
+            # Only nodes changed, so that the whole state needn't be written: it may be large.
+            if changed or is_fed:
+                self.files.add(Addition(new.serial, changed))
+            if is_fed:
+                self._feed_lines(old.serial, new.serial, [*plan.head, *plan.tail])
+        else:
+            self.files.prepare(new)
+            if is_fed:
+                self._feed_lines(old.serial, new.serial, [*plan.head, *plan.tail])
+            self.files.commit()
+        self.state = new
+
+    def feed_texts(self, pairs: Pairs, texts: Texts) -> None:
+        """Brings some files to other texts and rights; no name changes. Raises `NoMemory`."""
+        before = self.state.serial
+        plan = plan_nodes(pairs)
+        is_fed = not plan.is_empty() or texts.count > 0
+        nodes = [after for before, after in pairs if before != after]
+        addition = Addition(new_serial(before) if is_fed else before, nodes)
+        if not nodes:
+            return
+        self.files.add(addition)
+        if is_fed:
+            self._feed_addition(before, addition, plan, texts)
+        apply(self.state, addition)
+
+    def _feed_addition(self, before: str, addition: Addition, plan: Plan, texts: Texts) -> None:
+        head = [*begin(before, addition.serial), *plan.head]
+        tail = [*plan.tail, *end(addition.serial)]
+        try:
+            self._feed(Batch(self.folder, head, texts, tail))
+        except NoMemory:
+            self.files.take_back()
+            raise
+
+    def _feed_lines(self, before: str, serial: str, lines: list[bytes]) -> None:
+        """Feeds a batch without texts: in pieces, where the program has no memory for it.
+
+        After each line of a plan nobody sees more than before or after all of it, so that it may be
+        cut anywhere. Where the rest doesn't go in, the mark tells so, and all is fed anew.
+        """
+        whole = [*begin(before, serial), *lines, *end(serial)]
+        size, at = len(whole), 0
+        while at < len(whole):
+            is_last = at + size >= len(whole)
+            try:
+                piece = whole[at : at + size]
+                self._feed(Batch(self.folder, piece, None, [] if is_last else [SAVE]))
+            except NoMemory:
+                if size <= LINES_AT_LEAST:
+                    raise
+                size = max(LINES_AT_LEAST, -(-size // 2))
+                continue
+            at += size
+
+    def _feed(self, batch: Batch) -> None:
+        try:
+            self.reach.feed(batch)
+        finally:
+            batch.close()
+        self.batches += 1
+
+
+def _have_same_names(old: Tree, new: Tree) -> bool:
+    """Whether both trees have the same names, of the same nodes."""
+    if len(old.nodes) != len(new.nodes) or old.entries.keys() != new.entries.keys():
+        return False
+    return all(
+        names is new.entries[number] or names == new.entries[number]
+        for number, names in old.entries.items()
+    )

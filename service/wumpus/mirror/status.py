@@ -1,0 +1,93 @@
+"""The file `mirror.status`: what the mirror does, what is shut and why, and whose it is.
+
+It is one JSON object, written whole beside the one before and then renamed; mode 0600.
+"""
+
+import json
+import os
+import time
+from collections import Counter
+from pathlib import Path
+from typing import Any
+
+from .nodes import Tree
+from .pending import Pending
+from .reasons import Reason
+from .remarks import Remarks
+from .turn import Mirror
+
+NAME = "mirror.status"
+FORMAT = 1
+EVERY = 2.0  # seconds between two writings
+
+
+class StatusFile:
+    """Writes it, at most each two seconds but at the end of a turn."""
+
+    def __init__(self, folder: Path) -> None:
+        self.path = folder / NAME
+        self.last = 0.0
+        self.owners: dict[int, dict[str, int]] = {}  # names and bytes, as after the last walk
+
+    def count(self, tree: Tree) -> None:
+        """Counts names and bytes of texts by owner, after a walk."""
+        names: Counter[int] = Counter()
+        stored: Counter[int] = Counter()
+        nodes = tree.nodes
+        for entries in tree.entries.values():
+            names.update(nodes[child].rights.owner for child in entries.values())
+        for node in nodes.values():
+            if node.digest:
+                stored[node.rights.owner] += node.size
+        owners = names.keys() | stored.keys()
+        self.owners = {one: {"names": names[one], "bytes": stored[one]} for one in owners}
+
+    def write(self, mirror: Mirror, doing: str, trouble: str | None, is_due: bool = False) -> None:
+        """Writes it, where it is time or due. What can't be written is told by its age."""
+        if not is_due and time.monotonic() - self.last < EVERY:
+            return
+        self.last = time.monotonic()
+        told = self._told(mirror, doing, trouble)
+        new = self.path.with_suffix(".new")
+        try:
+            new.unlink(missing_ok=True)
+            flags = os.O_WRONLY | os.O_CREAT | os.O_EXCL | os.O_NOFOLLOW | os.O_CLOEXEC
+            with open(os.open(new, flags, 0o600), "w", encoding="utf-8") as out:
+                json.dump(told, out)
+            os.replace(new, self.path)
+        except OSError:
+            return
+
+    def _told(self, mirror: Mirror, doing: str, trouble: str | None) -> dict[str, Any]:
+        walked, pending, remarks = mirror.walked, mirror.pending, mirror.remarks
+        return {
+            "format": FORMAT,
+            "written": time.time(),
+            "state": doing,
+            "trouble": trouble,
+            "walk": {
+                "began": walked.began,
+                "seconds": walked.seconds,
+                "names": walked.names,
+                "fed": walked.fed,
+            },
+            "pending": {"files": pending.files, "bytes": pending.bytes},
+            "owners": self._owners(remarks, pending),
+            "shut": [
+                {"path": os.fsdecode(one.path), "owner": one.owner, "why": one.why.value}
+                for one in remarks.shown
+            ],
+            "left_out": [{"path": os.fsdecode(path), "why": why} for path, why in remarks.left_out],
+            "held": "; ".join(mirror.report.held) or None,
+        }
+
+    def _owners(self, remarks: Remarks, pending: Pending) -> dict[str, Any]:
+        told: dict[str, Any] = {
+            str(owner): {**counts, "shut": {}} for owner, counts in self.owners.items()
+        }
+        shut = [(owner, why, n) for owner, of in remarks.counts.items() for why, n in of.items()]
+        shut += [(person, Reason.PENDING, len(q)) for person, q in pending.queues.items() if q]
+        for owner, why, count in shut:
+            of_owner = told.setdefault(str(owner), {"names": 0, "bytes": 0, "shut": {}})
+            of_owner["shut"][why.value] = count
+        return told
