@@ -2,7 +2,8 @@
 
 Each line is carried out on a small model of the program's tree: none may be refused, the last tree
 is the new one, and between two lines nobody sees a path, or a text, that she sees neither before
-nor after the batch.
+nor after the batch. So a batch may be cut after each line. What wasn't seen is kept, and nobody is
+shown what is behind a name that is kept.
 """
 
 import random
@@ -11,6 +12,7 @@ from dataclasses import dataclass, field
 
 from harness import Score, options
 
+from wumpus.mirror.keep import Top, keep  # isort: skip
 from wumpus.mirror.nodes import CLOSED, ROOT, Node, Rights, Tree  # isort: skip
 from wumpus.mirror.plan import Groups, Plan, plan_all  # isort: skip
 from wumpus.shared.script import unescape  # isort: skip
@@ -173,6 +175,56 @@ def some_tree(draw: random.Random, old: Tree, following: int) -> tuple[Tree, int
     return tree, following
 
 
+def reached(tree: Tree) -> Tree:
+    """What of a tree is reached from its root."""
+    numbers = {ROOT}
+    waiting = [ROOT]
+    while waiting:
+        for child in tree.entries[waiting.pop()].values():
+            if child in tree.entries and child not in numbers:
+                waiting.append(child)
+            numbers.add(child)
+    return Tree(
+        {number: tree.nodes[number] for number in numbers},
+        {number: names for number, names in tree.entries.items() if number in numbers},
+    )
+
+
+def unseen(draw: random.Random, old: Tree, new: Tree) -> tuple[Tree, list[Top]]:
+    """A tree in which some names weren't seen that the old one has, and the names that are kept."""
+    chosen = [link for link in old.links() if link[0] in new.entries and draw.random() < 0.3]
+    for parent, name, _ in chosen:
+        new.entries[parent].pop(name, None)
+    tree = reached(new)
+    tops = [Top(*link) for link in chosen if link[0] in tree.entries]
+    before = {number: set(names) for number, names in tree.entries.items()}
+    keep(old, tree, tops)
+    kept = [top for top in tops if top.name in tree.entries[top.parent]]
+    kept = [top for top in kept if top.name not in before.get(top.parent, set())]
+    gone = [top for top in tops if top not in kept and top.number not in before]
+    assert not [top for top in gone if top.number not in tree.nodes], "something is gone"
+    return tree, kept
+
+
+def shown_through(model: Model, tops: list[Top]) -> set[tuple[int, int]]:
+    """Which user is shown which file by a way through one of these names."""
+    names = {(top.parent, top.name) for top in tops}
+    shown = set()
+    for user in USERS:
+        waiting = [(ROOT, False)]
+        while waiting:
+            directory, is_through = waiting.pop()
+            if not model.allows(user, directory, 1):
+                continue
+            for name, child in model.entries[directory].items():
+                through = is_through or (directory, name) in names
+                if child in model.entries:
+                    waiting.append((child, through))
+                elif through and model.allows(user, child, 4):
+                    shown.add((user, child))
+    return shown
+
+
 def lines_of(plan: Plan, old: Tree, new: Tree) -> list[bytes | tuple[int, bytes]]:
     """The lines of a batch, and the texts in their midst."""
     texts: list[bytes | tuple[int, bytes]] = []
@@ -218,9 +270,13 @@ def history(seed: int) -> None:
     users: Groups = {}
     for _ in range(12):
         new, following = some_tree(draw, tree, following)
+        tops: list[Top] = []
+        if draw.random() < 0.5:
+            new, tops = unseen(draw, tree, new)
         if not users or draw.random() < 0.2:
             users = {user: tuple(g for g in (20, 21, 22) if draw.random() < 0.5) for user in USERS}
         round_of(draw, model, tree, new, users)
+        assert not shown_through(model, tops), "what is kept is shown"
         tree = new
 
 
