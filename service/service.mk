@@ -1,6 +1,6 @@
 # The programs around wumpus: make install-service, make service-test, make deb. None is proved.
 # WUMPUS is the built program, and PREFIX and DESTDIR are those of the file that includes this one.
-SERVICE_SBIN := wumpus-mirror wumpusd
+SERVICE_SBIN := wumpus-mirror wumpusd wumpus-status
 SERVICE_BIN := wumpus-ask wumpus-lint
 SERVICE_PACKAGES := $(notdir $(patsubst %/,%,$(dir $(wildcard service/wumpus/*/__init__.py))))
 SERVICE_SCRIPTS := $(shell grep -slI '^\#!.*python3' \
@@ -14,6 +14,7 @@ SERVICE_TESTS := \
 	language \
 	ask \
 	client \
+	status \
 	limits \
 	service \
 	requests \

@@ -3,7 +3,7 @@
 _wumpus_options() {
     local options=$1 current=${COMP_WORDS[COMP_CWORD]} before=${COMP_WORDS[COMP_CWORD - 1]}
     case $before in
-    --folder | --sockets)
+    --folder | --mirror-folder | --sockets)
         mapfile -t COMPREPLY < <(compgen -d -- "$current")
         return
         ;;
@@ -15,7 +15,7 @@ _wumpus_options() {
         mapfile -t COMPREPLY < <(compgen -u -- "$current")
         return
         ;;
-    --program | --mirror | --users | --subuid)
+    --program | --mirror | --users | --subuid | --metrics | --exclude-from)
         mapfile -t COMPREPLY < <(compgen -f -- "$current")
         return
         ;;
@@ -54,8 +54,13 @@ _wumpus_lint() {
     _wumpus_options "--version --help" f
 }
 
+_wumpus_status() {
+    _wumpus_options "--folder --mirror-folder --old --all --json --metrics --version --help" f
+}
+
 complete -F _wumpus wumpus
 complete -o filenames -F _wumpus_mirror wumpus-mirror
 complete -o filenames -F _wumpusd wumpusd
 complete -F _wumpus_ask wumpus-ask
 complete -o filenames -F _wumpus_lint wumpus-lint
+complete -F _wumpus_status wumpus-status

@@ -1,0 +1,1 @@
+"""What mirror and service tell of themselves, for administrators and their monitoring."""
