@@ -15,7 +15,7 @@ _wumpus_options() {
         mapfile -t COMPREPLY < <(compgen -u -- "$current")
         return
         ;;
-    --program | --mirror | --users | --subuid | --metrics | --exclude-from)
+    --program | --mirror | --users | --subuid | --metrics | --exclude-from | --settings)
         mapfile -t COMPREPLY < <(compgen -f -- "$current")
         return
         ;;
@@ -58,9 +58,14 @@ _wumpus_status() {
     _wumpus_options "--folder --mirror-folder --old --all --json --metrics --version --help" f
 }
 
+_wumpus_why() {
+    _wumpus_options "--groups --folder --mirror-folder --settings --json --version --help" fu
+}
+
 complete -F _wumpus wumpus
 complete -o filenames -F _wumpus_mirror wumpus-mirror
 complete -o filenames -F _wumpusd wumpusd
 complete -F _wumpus_ask wumpus-ask
 complete -o filenames -F _wumpus_lint wumpus-lint
 complete -F _wumpus_status wumpus-status
+complete -o filenames -F _wumpus_why wumpus-why
