@@ -59,7 +59,8 @@ _wumpus_status() {
 }
 
 _wumpus_why() {
-    _wumpus_options "--groups --folder --mirror-folder --settings --json --version --help" fu
+    _wumpus_options "--groups --folder --mirror-folder --settings --exclude-from --json
+        --version --help" fu
 }
 
 complete -F _wumpus wumpus

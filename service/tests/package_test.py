@@ -21,6 +21,9 @@ LEFT = (
     "etc/default/wumpus", "etc/wumpus/excludes", "var/lib/wumpus", "var/lib/wumpus-mirror",
     "lib/systemd/system/wumpusd.service", "usr/share/doc/wumpus",
 )  # fmt: skip
+PROGRAMS = (
+    "wumpus-mirror", "wumpusd", "wumpus-ask", "wumpus-lint", "wumpus-status", "wumpus-why",
+)  # fmt: skip
 
 
 class Root:
@@ -63,7 +66,7 @@ def installed(root: Root, package: Path, score: Score) -> None:
         mode = (root.folder / "var/lib" / folder).stat().st_mode & 0o7777
         score.check(mode == 0o700, f"the mode of its folder: {mode:o}")
     score.check("nothing is searched before" in told, f"what is to be done next: {told}")
-    for program in ("wumpus-mirror", "wumpusd", "wumpus-ask", "wumpus-lint"):
+    for program in PROGRAMS:
         status, told = root.run(program, "--version")
         score.check(status == 0 and program in told, f"{program} --version: {told}")
 

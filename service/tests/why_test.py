@@ -40,6 +40,8 @@ class Place:
         self.tree.mkdir()
         self.store.mkdir(mode=0o700)
         self.settings = folder / "settings"
+        self.patterns = folder / "patterns"
+        self.patterns.write_text("# Keys.\n\n*.key\n")
         self.set("")
 
     def set(self, words: str) -> None:
@@ -66,7 +68,8 @@ class Place:
         """Runs the program for a user whose groups are 1001 and 3000."""
         command = [
             str(SERVICE / "wumpus-why"), "--folder", str(self.store), "--settings",
-            str(self.settings), "--groups", f"1001,{SHARED}", *words, str(path), user,
+            str(self.settings), "--exclude-from", str(self.patterns), "--groups",
+            f"1001,{SHARED}", *words, str(path), user,
         ]  # fmt: skip
         told = subprocess.run(command, capture_output=True, timeout=60)
         return told.returncode, told.stdout.decode(), told.stderr.decode()
@@ -87,7 +90,8 @@ def acl(path: Path, entries: str) -> None:
 def fill(place: Place) -> None:
     """A file for each reason."""
     tree = place.tree
-    for name, mode in (("shut", 0o700), ("hidden", 0o711), ("marked", 0o755), ("work.o", 0o755)):
+    open_folders = [(name, 0o755) for name in ("marked", "work.o", "a.key")]
+    for name, mode in (("shut", 0o700), ("hidden", 0o711), *open_folders):
         (tree / name).mkdir(mode=mode)
         os.chown(tree / name, ANN, ANN)
         (tree / name).chmod(mode)
@@ -108,7 +112,7 @@ def fill(place: Place) -> None:
     os.link(tree / "shut" / "file", tree / "other" / "second")
     write(tree / "large", 0o644)
     (tree / "large").write_bytes(b"apple " * 3_000_000)
-    place.mirror("--exclude", "*.o", "--exclude", "*/marked/*")
+    place.mirror("--exclude", "*.o", "--exclude", "*/marked/*", "--exclude", "*.key")
     (tree / "marked" / ".nowumpus").touch()
     (tree / "later").chmod(0o644)
     (tree / "earlier").chmod(0o600)
@@ -134,6 +138,7 @@ UNTOLD = (
     ("open/file", "there is nothing"),
     ("other", "it is a directory, and only files are told of"),
     ("work.o/file", "excluded by the pattern *.o"),
+    ("a.key/file", "excluded by the pattern *.key"),
     ("marked/file", "there is a .nowumpus in "),
     ("evil\x1b[31m", "evil\\x1b[31m"),
     ("../store/mirror.state", "below no root"),
@@ -209,7 +214,7 @@ def trouble(place: Place, score: Score) -> None:
 
 
 def beside_program(folder: Path, program: str, score: Score, draw: random.Random) -> int:
-    """Random trees: it says of each path and user what the program says, and what the kernel says."""
+    """Random trees: it says of each path and user what program and kernel say."""
     place = Place(folder, program)
     changes = Changes(os.fsencode(place.tree), draw, list(ASKERS), list(GROUPS), True)
     pairs = 0

@@ -12,6 +12,7 @@ from collections.abc import Iterator
 from pathlib import Path
 
 FOLDER = "/var/lib/wumpus"
+MIRROR_FOLDER = "/var/lib/wumpus-mirror"
 SOCKETS = "/run/wumpus"
 STORE = "wumpus-store"
 ASIDE = "wumpus-store.old"

@@ -10,9 +10,16 @@ from typing import Any
 
 from .. import VERSION
 from ..shared.progress import plain
-from ..shared.store import FOLDER
 from .attention import attention
-from .files import BadStatus, MirrorStatus, ServiceStatus, read_mirror, read_service
+from .files import (
+    BadStatus,
+    MirrorStatus,
+    ServiceStatus,
+    add_folders,
+    folders_of,
+    read_mirror,
+    read_service,
+)
 from .metrics import text_of, write
 from .report import report
 
@@ -29,8 +36,7 @@ def parser() -> argparse.ArgumentParser:
         allow_abbrev=False,
     )
     add = options.add_argument
-    add("--folder", default=FOLDER, metavar="DIR", help=f"of the service ({FOLDER})")
-    add("--mirror-folder", metavar="DIR", help="of the mirror, where that is another one")
+    add_folders(options)
     add("--old", type=float, default=OLD, metavar="SECONDS",
         help="how long ago the last walk may have begun (900)")  # fmt: skip
     add("--all", action="store_true", help="tell all owners and paths, and not the first alone")
@@ -47,10 +53,11 @@ def read(
     given: argparse.Namespace,
 ) -> tuple[MirrorStatus | None, ServiceStatus | None, Told]:
     """Both files, and what stands there. Raises `BadStatus`."""
-    service = read_service(Path(given.folder))
-    mirror = read_mirror(Path(given.mirror_folder or given.folder))
+    folders = folders_of(given)
+    service, mirror = read_service(folders.service), read_mirror(folders.mirror)
     if service is None and mirror is None:
-        raise BadStatus(f"{given.folder}: neither mirror nor service has told anything there")
+        where = f"{folders.service} and {folders.mirror}"
+        raise BadStatus(f"{where}: neither service nor mirror has told anything there")
     told = {
         "mirror": None if mirror is None else mirror[1],
         "service": None if service is None else service[1],

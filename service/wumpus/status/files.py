@@ -4,12 +4,15 @@ Who reads them may be root, and who writes them isn't: so no link is followed, n
 for, sizes are bounded, and each value is of the type that is due.
 """
 
+import argparse
 import json
 import os
 import stat
 from dataclasses import dataclass
 from pathlib import Path
 from typing import Any
+
+from ..shared.store import FOLDER, MIRROR_FOLDER
 
 MIRROR = "mirror.status"
 SERVICE = "service.status"
@@ -175,6 +178,29 @@ class ServiceStatus:
     slow: list[Slow]
     fed: int
     failed: int
+
+
+@dataclass(frozen=True)
+class Folders:
+    """Where service and mirror keep what they have."""
+
+    service: Path
+    mirror: Path
+
+
+def add_folders(options: argparse.ArgumentParser) -> None:
+    """The options that say where they are."""
+    add = options.add_argument
+    add("--folder", metavar="DIR", help=f"of the service ({FOLDER})")
+    add("--mirror-folder", metavar="DIR",
+        help=f"of the mirror ({MIRROR_FOLDER}; where --folder is given, the same)")  # fmt: skip
+
+
+def folders_of(given: argparse.Namespace) -> Folders:
+    """Where they are."""
+    service = given.folder or FOLDER
+    usual = given.folder or MIRROR_FOLDER
+    return Folders(Path(service), Path(given.mirror_folder or usual))
 
 
 def _values_of(path: Path) -> dict[str, Any] | None:

@@ -9,12 +9,11 @@ from pathlib import Path
 from .. import VERSION
 from ..mirror.state import BadState
 from ..shared.progress import plain
-from ..shared.store import FOLDER
-from ..status.files import BadStatus
+from ..status.files import BadStatus, add_folders, folders_of
 from .report import as_json, report
 from .users import BadUser, user_of
 from .verdict import judge, read
-from .wanted import SETTINGS
+from .wanted import EXCLUDES, SETTINGS, wanted_by
 
 TOLD, NOT_TOLD, TROUBLE = 0, 1, 2
 
@@ -35,10 +34,11 @@ def parser() -> argparse.ArgumentParser:
     add("path", metavar="PATH", help="the file")
     add("user", metavar="USER", help="a user's name or number")
     add("--groups", metavar="GID,..", help="her groups, in place of those of the system")
-    add("--folder", default=FOLDER, metavar="DIR", help=f"of the service ({FOLDER})")
-    add("--mirror-folder", metavar="DIR", help="of the mirror, where that is another one")
+    add_folders(options)
     add("--settings", default=str(SETTINGS), metavar="FILE",
         help=f"with the options and roots of the mirror ({SETTINGS})")  # fmt: skip
+    add("--exclude-from", default=str(EXCLUDES), metavar="FILE",
+        help=f"with the patterns of the mirror's unit ({EXCLUDES})")  # fmt: skip
     add("--json", action="store_true", help="one JSON object")
     add("--version", action="version", version=f"wumpus-why {VERSION}")
     return options
@@ -50,10 +50,8 @@ def run(given: argparse.Namespace) -> int:
         raise Trouble("it needs root: it reads everybody's paths, and asks the kernel as her")
     path = b"/" + os.fsencode(os.path.abspath(given.path)).lstrip(b"/")
     user = user_of(given.user, given.groups)
-    told = read(
-        Path(given.folder), Path(given.mirror_folder or given.folder), Path(given.settings)
-    )
-    verdict = judge(path, user, told)
+    wanted = wanted_by(Path(given.settings), Path(given.exclude_from))
+    verdict = judge(path, user, read(folders_of(given), wanted))
     if given.json:
         print(json.dumps(as_json(verdict)))
     else:

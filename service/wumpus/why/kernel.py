@@ -39,7 +39,7 @@ class Step:
     fault: str = ""
     changed: int = 0  # nanoseconds
     size: int = 0
-    has_mark: bool = False  # a directory with a file `.nowumpus`
+    is_marked: bool = False  # a directory that a file `.nowumpus` of its owner or root leaves out
 
 
 MARK = b".nowumpus"
@@ -102,16 +102,16 @@ def _step_at(descriptor: int, path: bytes, access: Access) -> Step:
             rights = mirrored = KERNELS.of_file(descriptor, status)
     except (BadList, OSError) as error:
         return Step(path, kind, fault=str(error))
-    has_mark = is_directory and _is_there(descriptor, MARK)
-    return Step(path, kind, rights, mirrored, "", status.st_ctime_ns, status.st_size, has_mark)
+    is_marked = is_directory and _is_marked(descriptor, status.st_uid)
+    return Step(path, kind, rights, mirrored, "", status.st_ctime_ns, status.st_size, is_marked)
 
 
-def _is_there(descriptor: int, name: bytes) -> bool:
+def _is_marked(descriptor: int, owner: int) -> bool:
     try:
-        os.stat(name, dir_fd=descriptor, follow_symlinks=False)
+        status = os.stat(MARK, dir_fd=descriptor, follow_symlinks=False)
     except OSError:
         return False
-    return True
+    return status.st_uid in (0, owner)
 
 
 def opens(path: bytes, user: User) -> str:

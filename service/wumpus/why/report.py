@@ -30,8 +30,8 @@ def report(verdict: Verdict) -> Iterator[str]:
     yield f"She is {'told' if verdict.is_told else 'not told'} of it."
     yield from (f"  {plain(one)}" for one in verdict.reasons)
     if not verdict.agrees and verdict.is_told:
-        yield "! She is told of what the kernel doesn't let her open: it changed since the mirror's last"
-        yield "  turn, or it is of those things that only the kernel knows (ADMIN.md)."
+        yield "! She is told of what the kernel doesn't let her open: it changed since the mirror's"
+        yield "  last turn, or it is of those things that only the kernel knows (ADMIN.md)."
 
 
 def _path(path: bytes) -> str:

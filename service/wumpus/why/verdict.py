@@ -4,16 +4,15 @@ import os
 import time
 from collections.abc import Iterator
 from dataclasses import dataclass
-from pathlib import Path
 
 from ..mirror.access import Access
 from ..mirror.nodes import Node, Tree
-from ..status.files import MirrorStatus, ServiceStatus, read_mirror, read_service
+from ..status.files import Folders, MirrorStatus, ServiceStatus, read_mirror, read_service
 from .kernel import Kind, Step, opens, steps_to
 from .program import Known, is_open, nodes_to, paths_of, read_tree
 from .rights import READ, SEARCH, grant
 from .users import User
-from .wanted import Wanted, wanted_by
+from .wanted import Wanted
 
 
 @dataclass(frozen=True)
@@ -26,12 +25,12 @@ class Told:
     service: ServiceStatus | None
 
 
-def read(folder: Path, mirror_folder: Path, settings: Path) -> Told:
+def read(folders: Folders, wanted: Wanted | None) -> Told:
     """Reads it. Raises `BadState`, `BadStatus`, and `OSError`."""
-    mirror, service = read_mirror(mirror_folder), read_service(folder)
+    mirror, service = read_mirror(folders.mirror), read_service(folders.service)
     return Told(
-        wanted_by(settings),
-        read_tree(mirror_folder),
+        wanted,
+        read_tree(folders.mirror),
         None if mirror is None else mirror[0],
         None if service is None else service[0],
     )
@@ -179,7 +178,7 @@ class _Reasons:
             yield f"a file system of kind {step.fault} is mounted there, which isn't walked"
         elif step.kind is Kind.OTHER:
             yield f"it is {step.kind.value}"
-        marked = [one for one in self.steps if one.has_mark and _is_below(path, one.path)]
+        marked = [one for one in self.steps if one.is_marked and _is_below(path, one.path)]
         if marked:
             yield f"there is a .nowumpus in {os.fsdecode(marked[0].path)}"
         for one in mirror.left_out if mirror is not None else []:

@@ -1,4 +1,4 @@
-"""What the mirror is asked to mirror, by the file that its unit reads."""
+"""What the mirror is asked to mirror, by the files that its unit reads."""
 
 import contextlib
 import io
@@ -9,10 +9,11 @@ from dataclasses import dataclass
 from pathlib import Path
 
 from ..mirror.access import Access
-from ..mirror.command import parser
+from ..mirror.command import parser, patterns_in
 from ..mirror.walk import pattern_of
 
 SETTINGS = Path("/etc/default/wumpus")
+EXCLUDES = Path("/etc/wumpus/excludes")
 _LINE = re.compile(r"^(ROOTS|MIRROR)=(.*)$", re.MULTILINE)
 
 
@@ -46,8 +47,8 @@ class Wanted:
         return None
 
 
-def wanted_by(settings: Path) -> Wanted | None:
-    """What a file of settings asks for; None where there is none, or it can't be read."""
+def wanted_by(settings: Path, patterns: Path) -> Wanted | None:
+    """What the files of settings and patterns ask for; None where the first can't be read."""
     try:
         text = settings.read_text(encoding="utf-8", errors="surrogateescape")
         values = {name: " ".join(shlex.split(value)) for name, value in _LINE.findall(text)}
@@ -57,5 +58,8 @@ def wanted_by(settings: Path) -> Wanted | None:
     except (OSError, ValueError, SystemExit):
         return None
     roots = tuple(os.fsencode(os.path.normpath(root)) for root in given.roots)
-    excludes = tuple(os.fsencode(pattern) for pattern in given.exclude)
-    return Wanted(roots, excludes, Access(given.unlisted))
+    excludes = [os.fsencode(pattern) for pattern in given.exclude]
+    for file in (patterns, given.exclude_from):
+        with contextlib.suppress(OSError):
+            excludes += patterns_in(Path(file)) if file is not None else []
+    return Wanted(roots, tuple(excludes), Access(given.unlisted))
