@@ -10,7 +10,7 @@ from pathlib import Path
 
 from ..mirror.access import Access
 from ..mirror.command import parser, patterns_in
-from ..mirror.walk import pattern_of
+from ..mirror.limits import pattern_of
 
 SETTINGS = Path("/etc/default/wumpus")
 EXCLUDES = Path("/etc/wumpus/excludes")
