@@ -130,7 +130,8 @@ def text_of(path: bytes) -> bytes:
     """The text that the program is to have of a file: none of one that isn't text."""
     with open(path, "rb") as file:
         text = file.read()
-    return b"" if len(text) > 16_777_216 or b"\0" in text[:8192] else text
+    is_none = len(text) > 16_777_216 or b"\0" in text[:8192] or b"%PDF-" in text[:1024]
+    return b"" if is_none else text
 
 
 class Due:

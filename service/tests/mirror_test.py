@@ -109,6 +109,9 @@ def odd_files(place: Place, score: Score) -> None:
     (place.tree / "large").write_bytes(b"apple " * 3_000_000)
     (place.tree / "binary").write_bytes(b"apple\0apple")
     (place.tree / "late").write_bytes(b"x" * 9000 + b"\0 pomegranate")
+    (place.tree / "letters.pdf").write_bytes(b"%PDF-1.4\n~> quince endstream\n")
+    (place.tree / "mailed").write_bytes(b"\n" * 1019 + b"%PDF-1.4 quince\n")
+    (place.tree / "about").write_bytes(b"\n" * 1020 + b"%PDF-1.4 medlar\n")
     os.mkfifo(place.tree / "fifo")
     (place.tree / "link").symlink_to("a")
     (place.tree / "outside").symlink_to("/etc")
@@ -119,6 +122,8 @@ def odd_files(place: Place, score: Score) -> None:
     score.check("large: over 16 MiB" in told, f"it warns: {told}")
     count = place.ask(b'count\t0\t"apple"\ncount\t0\t"pomegranate"\n')
     score.check(count == [b"count\t7\t7", b"count\t1\t1"], f"texts: {count}")
+    count = place.ask(b'count\t0\t"quince"\ncount\t0\t"medlar"\n')
+    score.check(count == [b"count\t0\t0", b"count\t1\t1"], f"PDFs without a NUL: {count}")
     deep = place.tree / "deep"
     deep.mkdir()
     descriptor = os.open(deep, os.O_RDONLY)

@@ -13,6 +13,7 @@ from collections.abc import Callable
 from dataclasses import dataclass
 
 from ..shared.script import TEXT_MAX
+from ..shared.texts import is_text
 from .access import Access, BadList
 from .budget import Account, Accounts
 from .nodes import Node, Rights, identity_of
@@ -23,7 +24,6 @@ from .walk import ATTEMPTS
 from .way import Restless, Torn, Ways
 
 FILE_FLAGS = os.O_RDONLY | os.O_NOFOLLOW | os.O_NONBLOCK | os.O_NOCTTY | os.O_CLOEXEC
-LOOKED_FOR_NUL = 8192
 SETTLED = 40_000_000_000  # nanoseconds in which a mapped file may change under one ctime
 PIECE = 1 << 20
 OPEN_AT_MOST = 512  # directories in a window, but for the last way
@@ -160,7 +160,7 @@ class Looker:
             return b""
         os.lseek(descriptor, 0, os.SEEK_SET)
         pieces = [os.read(descriptor, min(status.st_size + 1, PIECE))]
-        if b"\0" in pieces[0][:LOOKED_FOR_NUL]:
+        if not is_text(pieces[0]):
             return b""
         size = len(pieces[0])
         while pieces[-1] and size <= status.st_size:
