@@ -1,6 +1,6 @@
 # The programs around wumpus: make install-service, make service-test, make deb. None is proved.
 # WUMPUS is the built program, and PREFIX and DESTDIR are those of the file that includes this one.
-SERVICE_SBIN := wumpus-mirror wumpusd wumpus-status wumpus-why
+SERVICE_SBIN := wumpus-extract wumpus-mirror wumpusd wumpus-status wumpus-why
 SERVICE_BIN := wumpus-ask wumpus-lint
 SERVICE_PACKAGES := $(notdir $(patsubst %/,%,$(dir $(wildcard service/wumpus/*/__init__.py))))
 SERVICE_SCRIPTS := $(shell grep -slI '^\#!.*python3' \
@@ -23,7 +23,10 @@ SERVICE_TESTS := \
 	allow \
 	neighbours \
 	kernel \
-	race
+	race \
+	walls \
+	server \
+	bombs
 SERVICE_TEST_PROGRAM ?=
 UNITDIR ?= $(PREFIX)/lib/systemd/system
 SYSCONFDIR ?= /etc

@@ -1,0 +1,1 @@
+"""The text of documents, made by processes that can do nothing else."""
