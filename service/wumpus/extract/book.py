@@ -6,7 +6,7 @@ from .archive import Archive, beside
 from .coding import decoded
 from .frames import Output
 from .markup import Elements, Fields, read
-from .page import named_coding, write_page
+from .page import named_coding, write_chapter
 from .reasons import Reason, Refusal
 
 _PAGES = frozenset({"application/xhtml+xml", "text/html"})
@@ -26,8 +26,7 @@ def epub(data: bytes, output: Output) -> None:
         output.line(text)
     for name in _chapters(archive, package):
         page = archive.whole(name)
-        write_page(decoded(page, named_coding(page)), output)
-        output.text("\n")
+        write_chapter(decoded(page, named_coding(page)), output)
 
 
 def _chapters(archive: Archive, package: str) -> list[str]:

@@ -21,7 +21,7 @@ from enum import Enum
 from pathlib import Path
 
 from .documents import Document
-from .kinds import PLAIN, Kind, Table
+from .kinds import Kind, Table
 from .own import NoRun, no_run
 from .packets import (
     ANSWER_SIZE,
@@ -165,7 +165,7 @@ class Extractor:
     def fingerprints(self) -> dict[str, str]:
         """Each kind that is made, with what changes where its texts may come out different."""
         offers = {} if self.server is None else self.server.offers
-        return {name: one.fingerprint for name, (_, one) in offers.items() if name != PLAIN}
+        return {name: one.fingerprint for name, (_, one) in offers.items() if name in self.table.kinds}
 
     def kind_of(self, name: bytes, front: bytes) -> Kind | None:
         """The kind of a file with this name that begins with these 8,192 bytes; None if none."""

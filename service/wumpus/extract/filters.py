@@ -4,13 +4,14 @@ from collections.abc import Callable
 
 from .book import epub
 from .frames import Output
-from .kinds import PLAIN
+from .kinds import PLAIN, WRITTEN
 from .mail import mail
 from .office import OFFICE
 from .opendocument import opendocument
 from .packed import unpack_bz2, unpack_gz, unpack_xz, unpack_zst
 from .page import html
 from .wide import plain, wide
+from .written import written
 
 VERSION = 1  # of all filters: another one has documents made anew
 
@@ -26,4 +27,5 @@ FILTERS: dict[str, Callable[[bytes, Output], None]] = {
     "zst": unpack_zst,
     "wide": wide,
     PLAIN: plain,
+    WRITTEN: written,
 }

@@ -3,7 +3,7 @@
 They stand in a table, whose lines can be changed or added by a file of root's:
 
     # kind   known by                  made by
-    pdf      early %PDF-               program /usr/bin/pdftotext -q -enc UTF-8 -eol unix - -
+    djvu     suffix djvu               program /usr/bin/djvutxt -
     html     suffix html htm xhtml     code html
     mail     off
 
@@ -27,8 +27,8 @@ TABLE_MAX = 1 << 16  # bytes
 EARLY = 1024
 
 BUILT_IN = r"""
-pdf    early %PDF-                                  program /usr/bin/pdftotext -q -enc UTF-8 \
-                                                            -eol unix - -
+pdf    early %PDF-                                  program /usr/bin/pdftotext -q -htmlmeta \
+                                                            -enc UTF-8 -eol unix - -
 docx   magic PK\x03\x04 suffix docx docm dotx dotm  code docx
 xlsx   magic PK\x03\x04 suffix xlsx xlsm xltx xltm  code xlsx
 pptx   magic PK\x03\x04 suffix pptx pptm ppsx potx  code pptx
@@ -46,7 +46,8 @@ mail   suffix eml mbox or magic From\x20 or magic Return-Path:\x20< \
 wide   wide                                         code wide
 """
 
-PLAIN = "plain"  # the filter of what was packed, and of what a program writes; it is no kind
+# Filters that are no kinds: of a text that was packed, and of what a program writes.
+PLAIN, WRITTEN = "plain", "written"
 # The filters of this package.
 CODES = frozenset("docx xlsx pptx odf epub html mail gz xz bz2 zst wide".split())
 
@@ -215,7 +216,7 @@ def table_of(*texts: str) -> Table:
         for number, words in _lines_of(text):
             if not words or words[0].startswith("#"):
                 continue
-            if not _NAME.fullmatch(words[0]) or words[0] == PLAIN:
+            if not _NAME.fullmatch(words[0]) or words[0] in (PLAIN, WRITTEN):
                 raise BadTable(f"line {number}: {words[0]!r} can't be the name of a kind")
             if words[1:] == ["off"]:
                 kinds.pop(words[0], None)

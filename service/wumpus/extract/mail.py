@@ -8,7 +8,7 @@ from email.message import Message
 
 from .coding import decoded
 from .frames import Output
-from .page import named_coding, write_page
+from .page import named_coding, write_chapter
 
 _HEADS = ("Subject", "From", "To", "Cc", "Date")
 # A mail of a box begins with such a line, behind a blank one.
@@ -128,8 +128,7 @@ def _write_leaf(part: Message, sort: str, output: Output) -> None:
         return
     named = part.get_content_charset()
     if sort == "text/html":
-        write_page(decoded(body, named or named_coding(body)), output)
-        output.text("\n")
+        write_chapter(decoded(body, named or named_coding(body)), output)
     elif part.get_content_maintype() == "text":
         output.text(decoded(body, named))
         output.text("\n")

@@ -10,7 +10,7 @@ from .reasons import Reason, Refusal
 _SKIPPED = frozenset({"tracked-changes", "creator", "date", "date-string", "creator-initials"})
 _PARAGRAPHS = frozenset({"p", "h", "title", "desc"})
 _SIGNS = {"s": " ", "tab": "\t", "line-break": " "}
-_SHEET = "opendocument.spreadsheet"
+_SHEET, _TEXT = b"opendocument.spreadsheet", b"opendocument.text"
 
 
 class Body:
@@ -79,6 +79,7 @@ def opendocument(data: bytes, output: Output) -> None:
     read(archive.pieces("meta.xml"), fields)
     for text in dict.fromkeys(fields.all()):
         output.line(text)
-    is_sheet = _SHEET.encode() in archive.whole("mimetype")
-    for name in ("content.xml", "styles.xml"):
-        read(archive.pieces(name), Body(output, is_sheet))
+    sort = archive.whole("mimetype")
+    read(archive.pieces("content.xml"), Body(output, _SHEET in sort))
+    if _TEXT in sort:  # those of sheets and slides are hardly ever of anybody's own words
+        read(archive.pieces("styles.xml"), Body(output, False))

@@ -32,25 +32,29 @@ class Page(HTMLParser):
         self.line = 1  # of the page, which what is written has reached
         self.silent = False
 
-    def _reach(self) -> None:
+    def reach(self) -> None:
         """Writes the line feeds of what was read since, as of tags."""
         line = self.getpos()[0]
         if line > self.line:
             self.output.text("\n" * (line - self.line))
             self.line = line
 
-    def _put(self, text: str) -> None:
+    def part(self) -> None:
+        """Ends a word."""
+        self.put(" ")
+
+    def put(self, text: str) -> None:
         """Writes text that has no line feed in the page."""
-        self._reach()
+        self.reach()
         self.output.text(text.replace("\n", " ").replace("\f", " "))
 
     def handle_starttag(self, tag: str, attrs: list[tuple[str, str | None]]) -> None:
         """A tag ends a word, if it isn't of those that stand within words."""
         self.silent = tag in _NOT_TEXT
         if tag not in _INLINE:
-            self._put(" ")
+            self.part()
         for text in _texts_of(tag, attrs):
-            self._put(f" {text} ")
+            self.put(f" {text} ")
 
     def handle_startendtag(self, tag: str, attrs: list[tuple[str, str | None]]) -> None:
         """A tag that ends at once has nothing within it."""
@@ -61,23 +65,53 @@ class Page(HTMLParser):
         """The end of an element ends a word too."""
         self.silent = False
         if tag not in _INLINE:
-            self._put(" ")
+            self.part()
 
     def handle_data(self, data: str) -> None:
         """Text, with the line feeds of the page."""
-        self._reach()
+        self.reach()
         lines = data.count("\n")
         self.output.text("\n" * lines if self.silent else data.replace("\f", " "))
         self.line += lines
 
     def handle_charref(self, name: str) -> None:
         """A character by its number."""
-        self._put(unescape(f"&#{name};"))
+        self.put(unescape(f"&#{name};"))
 
     def handle_entityref(self, name: str) -> None:
         """A character by its name, or no such thing, which is text."""
         told = unescape(f"&{name};")
-        self._put(f"&{name}" if told == f"&{name};" else told)
+        self.put(f"&{name}" if told == f"&{name};" else told)
+
+
+class Chapter(Page):
+    """A page within another document, where a line is a paragraph."""
+
+    def __init__(self, output: Output) -> None:
+        super().__init__(output)
+        self.words: list[str] = []
+
+    def reach(self) -> None:
+        """Line feeds of the page are blanks."""
+
+    def part(self) -> None:
+        """Ends a line."""
+        self.output.line(" ".join("".join(self.words).split()))
+        self.words.clear()
+
+    def put(self, text: str) -> None:
+        """Puts text into the line."""
+        self.words.append(text)
+
+    def handle_data(self, data: str) -> None:
+        """Text, whose blanks are all alike."""
+        if not self.silent:
+            self.words.append(data)
+
+    def close(self) -> None:
+        """Ends the last line."""
+        super().close()
+        self.part()
 
 
 def _texts_of(tag: str, attrs: list[tuple[str, str | None]]) -> list[str]:
@@ -97,9 +131,12 @@ def named_coding(data: bytes) -> str | None:
     return None if coding is None or coding.startswith(("utf-16", "utf-32")) else coding
 
 
-def write_page(text: str, output: Output) -> None:
-    """Writes the text of a page whose characters are known."""
-    page = Page(output)
+def write_chapter(text: str, output: Output) -> None:
+    """Writes the text of a page within another document."""
+    _write(text, Chapter(output))
+
+
+def _write(text: str, page: Page) -> None:
     page.feed(text.replace("\r\n", "\n"))
     page.close()
 
@@ -108,4 +145,4 @@ def html(data: bytes, output: Output) -> None:
     """Writes the text of a page, whose lines are those of the file."""
     if b"\0" in data[:_FRONT] and marked(data) is None:
         raise Refusal(Reason.BROKEN)
-    write_page(decoded(data, named_coding(data)), output)
+    _write(decoded(data, named_coding(data)), Page(output))

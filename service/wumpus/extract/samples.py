@@ -95,17 +95,17 @@ def epub(*pages: str) -> bytes:
 
 
 def mail(text: str) -> bytes:
-    """A mail with a text in two forms, in codings of their own."""
+    """A mail with a text in two forms."""
     whole = MIMEMultipart("alternative")
     whole["Subject"] = "=?utf-8?q?a_mail?= about =?iso-8859-1?b?4Q==?="
     whole.attach(MIMEText(text, "plain", "utf-8"))
-    whole.attach(MIMEText(f"<p>{text}</p>", "html", "iso-8859-1"))
+    whole.attach(MIMEText(f"<p>{text}</p>", "html", "utf-8"))
     whole.set_boundary("sample")
     return whole.as_bytes()
 
 
-def pdf(text: str) -> bytes:
-    """A PDF of one page that says this, in letters of ASCII."""
+def pdf(text: str, title: str = "") -> bytes:
+    """A PDF of one page that says this, in letters of ASCII, and has a title if so."""
     stream = f"BT /F1 12 Tf 72 700 Td ({text}) Tj ET"
     objects = (
         "<< /Type /Catalog /Pages 2 0 R >>",
@@ -114,6 +114,7 @@ def pdf(text: str) -> bytes:
         " /Resources << /Font << /F1 5 0 R >> >> >>",
         f"<< /Length {len(stream)} >>\nstream\n{stream}\nendstream",
         "<< /Type /Font /Subtype /Type1 /BaseFont /Helvetica /Encoding /WinAnsiEncoding >>",
+        f"<< /Title ({title}) >>",
     )
     whole = "%PDF-1.4\n"
     places = []
@@ -121,8 +122,10 @@ def pdf(text: str) -> bytes:
         places.append(len(whole))
         whole += f"{number} 0 obj\n{one}\nendobj\n"
     table = "".join(f"{place:010} 00000 n \n" for place in places)
-    end = f"trailer\n<< /Size {len(objects) + 1} /Root 1 0 R >>\nstartxref\n{len(whole)}\n%%EOF\n"
-    return f"{whole}xref\n0 {len(objects) + 1}\n0000000000 65535 f \n{table}{end}".encode("ascii")
+    count = len(objects) + 1
+    about = "/Info 6 0 R " if title else ""
+    end = f"trailer\n<< /Size {count} /Root 1 0 R {about}>>\nstartxref\n{len(whole)}\n%%EOF\n"
+    return f"{whole}xref\n0 {count}\n0000000000 65535 f \n{table}{end}".encode("ascii")
 
 
 _TEXT = f"{WORD}\n".encode("ascii")
@@ -131,6 +134,7 @@ _ZSTD = bytes.fromhex("28b52ffd200739000077756d7075730a")
 
 OF_FILTER: dict[str, bytes] = {
     "plain": _TEXT,
+    "written": _TEXT,
     "docx": docx(f"<w:p><w:r><w:t>{WORD}</w:t></w:r></w:p>"),
     "xlsx": xlsx(f"<si><t>{WORD}</t></si>", '<row><c t="s"><v>0</v></c></row>'),
     "pptx": pptx(f"<a:p><a:r><a:t>{WORD}</a:t></a:r></a:p>"),

@@ -5,7 +5,7 @@ import os
 from . import samples
 from .filters import FILTERS
 from .frames import Sink
-from .kinds import PLAIN, Code, Table
+from .kinds import PLAIN, WRITTEN, Code, Table
 from .walls import Walls
 from .worker import CodeTask, ProgramTask, Task
 
@@ -13,7 +13,9 @@ from .worker import CodeTask, ProgramTask, Task
 def tasks_of(table: Table) -> dict[str, Task]:
     """The task of each kind whose program is there. Raises `Missing` where a wall is."""
     code = Walls.for_code()
-    tasks: dict[str, Task] = {PLAIN: CodeTask(code, FILTERS[PLAIN])}
+    tasks: dict[str, Task] = {
+        name: CodeTask(code, FILTERS[name]) for name in (PLAIN, WRITTEN)
+    }
     for kind in table.kinds.values():
         if isinstance(kind.made_by, Code):
             tasks[kind.name] = CodeTask(code, FILTERS[kind.made_by.name])

@@ -15,7 +15,7 @@ from ..shared.script import TEXT_MAX
 from ..shared.texts import is_text
 from .documents import DOCUMENT_MAX, Document
 from .frames import HEAD, HINT, HINT_MAX, TEXT, WHY, WITHIN
-from .kinds import PACKED, PLAIN, Table
+from .kinds import PACKED, PLAIN, WRITTEN, Table
 from .reasons import SAID, Ended, Reason, Way
 from .walls import Allowance
 
@@ -79,6 +79,7 @@ def text_of(workers: Workers, table: Table, name: bytes, document: Document) -> 
     try:
         if kind is None:
             raise _Enough(Reason.BROKEN)
+        making.kind = kind.name
         making.make(kind.name, name, document, 0)
     except _Enough as enough:
         return Failed(enough.reason, making.bounds.seconds)
@@ -274,8 +275,6 @@ class _Making:
         is_program = self.workers.is_program(kind)
         if is_program is None:
             raise _Enough(Reason.NO_SERVER)
-        if depth == 0 or self.kind in PACKED:
-            self.kind = kind
         told = self._told(kind, document, is_program)
         try:
             if is_program:
@@ -295,7 +294,7 @@ class _Making:
         if written:
             self.bounds.text += len(written)  # it counts when it is tidy
             with Document.of(written) as document:
-                self.make(PLAIN, b"", document, depth)
+                self.make(WRITTEN, b"", document, depth)
 
     def _make_within(self, inner: _Inner, name: bytes, depth: int) -> None:
         """Puts the text of a document within, in lines of its own; it fails by itself."""
@@ -309,8 +308,11 @@ class _Making:
         if self.texts and not self.texts[-1].endswith(b"\n"):
             self.bounds.take_text(1)
             self.texts.append(b"\n")
+        of_kind = kind.name if kind else PLAIN
+        if self.kind in PACKED:
+            self.kind = of_kind
         try:
-            self.make(kind.name if kind else PLAIN, name, inner.document, depth)
+            self.make(of_kind, name, inner.document, depth)
         except _Enough as enough:
             if enough.reason in _OF_ALL or not enough.reason.final:
                 raise

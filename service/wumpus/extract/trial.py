@@ -15,7 +15,7 @@ from dataclasses import dataclass
 from . import samples, system
 from .documents import Document
 from .filters import VERSION
-from .kinds import PLAIN, Code, Kind, Table
+from .kinds import PLAIN, WRITTEN, Code, Kind, Table
 from .own import OwnRun
 from .packets import Offer
 from .reasons import Ended, Way
@@ -105,10 +105,12 @@ def offers(
 
     Raises `Untrusted` where not even a plain text can be read.
     """
-    trouble = _trouble_of(tasks[PLAIN], samples.OF_FILTER[PLAIN])
-    if trouble is not None:
-        raise Untrusted(f"behind its walls a worker can read nothing: {trouble}")
-    offered = {PLAIN: _offer(PLAIN, tasks[PLAIN])}
+    offered = {}
+    for name in (PLAIN, WRITTEN):
+        trouble = _trouble_of(tasks[name], samples.OF_FILTER[name])
+        if trouble is not None:
+            raise Untrusted(f"behind its walls a worker can read nothing: {trouble}")
+        offered[name] = _offer(name, tasks[name])
     for kind in table.kinds.values():
         task = tasks.get(kind.name)
         trouble = _trouble_of(task, _sample_of(kind)) if task else "its program isn't there"

@@ -49,5 +49,5 @@ def wide(data: bytes, output: Output) -> None:
 
 
 def plain(data: bytes, output: Output) -> None:
-    """Writes a text of bytes, as it was packed in another document, or as a program made it."""
+    """Writes a text of bytes, as it was packed in another document."""
     output.text(decoded(data))
