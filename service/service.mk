@@ -24,9 +24,11 @@ SERVICE_TESTS := \
 	neighbours \
 	kernel \
 	race \
+	calls \
 	walls \
 	server \
-	bombs
+	bombs \
+	extract
 SERVICE_TEST_PROGRAM ?=
 UNITDIR ?= $(PREFIX)/lib/systemd/system
 SYSCONFDIR ?= /etc
@@ -57,14 +59,16 @@ install-service:
 	done
 	install -m 644 service/completions/_wumpus $(DESTDIR)$(PREFIX)/share/zsh/site-functions
 	install -m 644 service/systemd/wumpus.sysusers $(DESTDIR)$(PREFIX)/lib/sysusers.d/wumpus.conf
-	for unit in service/systemd/*.service; do \
-		sed -e 's,/usr/sbin/,$(PREFIX)/sbin/,' -e 's,/usr/bin/,$(PREFIX)/bin/,' $$unit \
+	for unit in service/systemd/*.service service/systemd/*.socket; do \
+		sed -e 's,/usr/\(s*bin\|share\)/wumpus,$(PREFIX)/\1/wumpus,g' $$unit \
 			>$(DESTDIR)$(UNITDIR)/$${unit##*/} || exit; \
 	done
 	test -e $(DESTDIR)$(SYSCONFDIR)/default/wumpus || \
 		install -m 644 service/systemd/default $(DESTDIR)$(SYSCONFDIR)/default/wumpus
 	test -e $(DESTDIR)$(SYSCONFDIR)/wumpus/excludes || \
 		install -D -m 644 service/systemd/excludes $(DESTDIR)$(SYSCONFDIR)/wumpus/excludes
+	test -e $(DESTDIR)$(SYSCONFDIR)/wumpus/documents || \
+		install -D -m 644 service/systemd/documents $(DESTDIR)$(SYSCONFDIR)/wumpus/documents
 
 # As root; without it, the tests that take on the ids of users say that they are skipped. Where no
 # program is built, and SERVICE_TEST_PROGRAM names none, the stand-in answers, and says so.
@@ -103,7 +107,8 @@ package:
 	cp README.md docs/*.md out/deb/usr/share/doc/wumpus
 	sed -e 's/@VERSION@/$(VERSION)/' -e 's/@ARCH@/$(DEB_ARCH)/' service/debian/control \
 		>out/deb/DEBIAN/control
-	printf '%s\n' /etc/default/wumpus /etc/wumpus/excludes >out/deb/DEBIAN/conffiles
+	printf '%s\n' /etc/default/wumpus /etc/wumpus/excludes /etc/wumpus/documents \
+		>out/deb/DEBIAN/conffiles
 	install -m 755 service/debian/postinst service/debian/prerm service/debian/postrm \
 		out/deb/DEBIAN
 	chmod -R u=rwX,go=rX out/deb

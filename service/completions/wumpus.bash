@@ -15,7 +15,7 @@ _wumpus_options() {
         mapfile -t COMPREPLY < <(compgen -u -- "$current")
         return
         ;;
-    --program | --mirror | --users | --subuid | --metrics | --exclude-from | --settings)
+    --program | --mirror | --users | --subuid | --metrics | --exclude-from | --settings | --socket | --documents)
         mapfile -t COMPREPLY < <(compgen -f -- "$current")
         return
         ;;
@@ -36,6 +36,10 @@ _wumpus() {
 _wumpus_mirror() {
     _wumpus_options "--folder --program --sockets --exclude --exclude-from --one-file-system --unlisted --users --served --every
         --anew --dry-run --quiet --version --help" d
+}
+
+_wumpus_extract() {
+    _wumpus_options "--socket --documents --check --version --help" f
 }
 
 _wumpusd() {
@@ -65,6 +69,7 @@ _wumpus_why() {
 
 complete -F _wumpus wumpus
 complete -o filenames -F _wumpus_mirror wumpus-mirror
+complete -o filenames -F _wumpus_extract wumpus-extract
 complete -o filenames -F _wumpusd wumpusd
 complete -F _wumpus_ask wumpus-ask
 complete -o filenames -F _wumpus_lint wumpus-lint

@@ -14,7 +14,8 @@ import os
 from dataclasses import dataclass
 from enum import IntEnum
 
-_LIBRARY = "libseccomp.so.2"
+LIBRARY = "libseccomp.so.2"
+_OTHER_ARCHITECTURE = 2  # SCMP_FLTATR_ACT_BADARCH
 _ERRNO = 0x00050000
 _REGISTER = (1 << 64) - 1
 
@@ -92,7 +93,7 @@ _MAPS = 2  # the argument of mmap and mprotect that says what the memory may be 
 _NEW_LIMIT = 2  # the argument of prlimit64 that has the limit to be set
 
 
-def _rules_of_code() -> list[Rule]:
+def rules_of_code() -> list[Rule]:
     """The rules for a filter that is code: no new file and nothing to execute."""
     rules = [Rule(call, Action.ALLOW) for call in CODE.split()]
     for call in ("mmap", "mprotect"):
@@ -100,13 +101,14 @@ def _rules_of_code() -> list[Rule]:
             Rule(call, Action.ALLOW, _MAPS, _EXECUTABLE, 0),
             Rule(call, Action.KILL, _MAPS, _EXECUTABLE, _EXECUTABLE),
         ]
-    return rules + [Rule("execve", Action.KILL)]
+    return [*rules, Rule("execve", Action.KILL), *_rules_of_all()]
 
 
-def _rules_of_programs() -> list[Rule]:
+def rules_of_programs() -> list[Rule]:
     """The rules for a filter that is a program."""
     rules = [Rule(call, Action.ALLOW) for call in [*PROGRAM.split(), "mmap"]]
-    return rules + [Rule("prlimit64", Action.ALLOW, _NEW_LIMIT, _REGISTER, 0)]
+    only_asked = Rule("prlimit64", Action.ALLOW, _NEW_LIMIT, _REGISTER, 0)
+    return [*rules, only_asked, *_rules_of_all()]
 
 
 def _rules_of_all() -> list[Rule]:
@@ -120,14 +122,16 @@ class Missing(Exception):
     """The library isn't there, or can't make a filter."""
 
 
-def _library() -> ctypes.CDLL:
+def library_here() -> ctypes.CDLL:
+    """The library. Raises `Missing`."""
     try:
-        library = ctypes.CDLL(_LIBRARY, use_errno=True)
+        library = ctypes.CDLL(LIBRARY, use_errno=True)
     except OSError as error:
         raise Missing(f"seccomp: {error}") from error
     library.seccomp_init.restype = ctypes.c_void_p
     library.seccomp_init.argtypes = [ctypes.c_uint32]
     library.seccomp_release.argtypes = [ctypes.c_void_p]
+    library.seccomp_attr_set.argtypes = [ctypes.c_void_p, ctypes.c_int, ctypes.c_uint32]
     library.seccomp_rule_add_array.argtypes = [
         ctypes.c_void_p, ctypes.c_uint32, ctypes.c_int, ctypes.c_uint, ctypes.c_void_p,
     ]  # fmt: skip
@@ -135,7 +139,15 @@ def _library() -> ctypes.CDLL:
     return library
 
 
-def _add(library: ctypes.CDLL, context: int, rule: Rule) -> None:
+def begin(library: ctypes.CDLL, otherwise: Action) -> ctypes.c_void_p:
+    """A list of rules, with what is done at all other calls. Raises `Missing`."""
+    context = ctypes.c_void_p(library.seccomp_init(otherwise))
+    if not context or library.seccomp_attr_set(context, _OTHER_ARCHITECTURE, Action.KILL) != 0:
+        raise Missing("seccomp: no list can be begun")
+    return context
+
+
+def add(library: ctypes.CDLL, context: ctypes.c_void_p, rule: Rule) -> None:
     """Adds a rule, where this architecture has the call."""
     number = library.seccomp_syscall_resolve_name(rule.call.encode())
     if number < 0:
@@ -150,14 +162,12 @@ def _add(library: ctypes.CDLL, context: int, rule: Rule) -> None:
 
 
 def program_of(rules: list[Rule], otherwise: Action) -> ctypes.Array[ctypes.c_char]:
-    """The program for the kernel, which does something else at all other calls. Raises `Missing`."""
-    library = _library()
-    context = library.seccomp_init(otherwise)
-    if not context:
-        raise Missing("seccomp: no memory")
+    """The kernel's program, with what is done at all other calls. Raises `Missing`."""
+    library = library_here()
+    context = begin(library, otherwise)
     try:
         for rule in rules:
-            _add(library, context, rule)
+            add(library, context, rule)
         descriptor = os.memfd_create("calls", os.MFD_CLOEXEC)
         try:
             status = library.seccomp_export_bpf(context, descriptor)
@@ -174,9 +184,9 @@ def program_of(rules: list[Rule], otherwise: Action) -> ctypes.Array[ctypes.c_ch
 
 def for_code() -> ctypes.Array[ctypes.c_char]:
     """The kernel's filter for a filter of documents that is code. Raises `Missing`."""
-    return program_of(_rules_of_code() + _rules_of_all(), Action.NOT_PERMITTED)
+    return program_of(rules_of_code(), Action.NOT_PERMITTED)
 
 
 def for_programs() -> ctypes.Array[ctypes.c_char]:
     """The kernel's filter for one that is a program. Raises `Missing`."""
-    return program_of(_rules_of_programs() + _rules_of_all(), Action.NOT_PERMITTED)
+    return program_of(rules_of_programs(), Action.NOT_PERMITTED)

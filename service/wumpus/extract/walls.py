@@ -77,7 +77,8 @@ def leave_rights() -> None:
         os.setgroups([])
         os.setresgid(NOBODY, NOBODY, NOBODY)
         os.setresuid(NOBODY, NOBODY, NOBODY)
-    system.drop_capabilities()
+    if system.has_capability():
+        system.drop_capabilities()
 
 
 def die_with(parent: int) -> None:
