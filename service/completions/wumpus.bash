@@ -48,10 +48,37 @@ _wumpusd() {
         --connections-of-user --reply-bytes --version --help" f
 }
 
+# Her own words that go on with what was typed, those of most files first.
 _wumpus_ask() {
-    [[ ${COMP_WORDS[COMP_CWORD]} == -* || ${COMP_WORDS[COMP_CWORD - 1]} == --sockets ]] || return
-    _wumpus_options "--count --list --expression --number --json --no-color --sockets --version
-        --help -c -l -e -n" d
+    local current=${COMP_WORDS[COMP_CWORD]} before=${COMP_WORDS[COMP_CWORD - 1]} place sockets=()
+    case $before in
+    --sockets)
+        mapfile -t COMPREPLY < <(compgen -d -- "$current")
+        return
+        ;;
+    -f | --file)
+        mapfile -t COMPREPLY < <(compgen -f -- "$current")
+        return
+        ;;
+    --color | --hyperlink)
+        mapfile -t COMPREPLY < <(compgen -W "auto always never" -- "$current")
+        return
+        ;;
+    esac
+    if [[ $current == --* ]]; then
+        _wumpus_options "--count --list --null --lines --number --max-count --after-context
+            --before-context --context --open --file --expression --vimgrep --json --explain --any
+            --exact-words --color --no-color --hyperlink --no-pager --sockets --version --help" d
+        return
+    fi
+    for place in "${!COMP_WORDS[@]}"; do
+        if [[ ${COMP_WORDS[place]} == --sockets ]]; then
+            sockets=(--sockets "${COMP_WORDS[place + 1]}")
+        fi
+    done
+    mapfile -t COMPREPLY < <(
+        wumpus-ask "${sockets[@]}" --complete "$current" 2>/dev/null
+    )
 }
 
 _wumpus_lint() {
@@ -71,7 +98,7 @@ complete -F _wumpus wumpus
 complete -o filenames -F _wumpus_mirror wumpus-mirror
 complete -o filenames -F _wumpus_extract wumpus-extract
 complete -o filenames -F _wumpusd wumpusd
-complete -F _wumpus_ask wumpus-ask
+complete -o nosort -F _wumpus_ask wumpus-ask
 complete -o filenames -F _wumpus_lint wumpus-lint
 complete -F _wumpus_status wumpus-status
 complete -o filenames -F _wumpus_why wumpus-why

@@ -3,6 +3,7 @@
 import json
 import os
 import pty
+import shlex
 import shutil
 import signal
 import subprocess
@@ -17,7 +18,7 @@ from kernel import User, become
 from service_test import Served, mirror_until_done
 
 ESCAPE = "evil\x1b[31m\x07\u009b2J\u202e"
-ANN = User(1000, (1000,))
+ANN, BOB = User(1000, (1000,)), User(1001, (1001,))
 CALM = {"PAGER": "cat", "TERM": "xterm", "PATH": os.environ.get("PATH", "/usr/bin:/bin")}
 
 
@@ -398,6 +399,50 @@ def lint(score: Score, program: str, folder: Path) -> None:
     score.check(subprocess.run(command, capture_output=True).returncode == 0, "an empty script")
 
 
+def readme(served: Served, score: Score) -> None:
+    """What README shows of two users is what they are shown, and the manual's examples run."""
+    if os.geteuid() != 0:
+        print("client: the example of README: skipped, it needs root to take on the ids of users")
+        return
+    top = served.tree / "machine"
+    texts = {
+        "home/ann/todo": (ANN, "call Carol\nask Bob about the budget\n"),
+        "home/bob/diary": (BOB, "a surprise for Ann\nit isn't in the budget\n"),
+        "srv/team/plan": (BOB, "The budget for March\n"),
+    }
+    for name, (owner, text) in texts.items():
+        path = top / name
+        path.parent.mkdir(parents=True)
+        path.write_text(text)
+        for one in (path, path.parent):
+            os.chown(one, owner.number, owner.number)
+        if name.startswith("home"):
+            path.parent.chmod(0o700)
+    score.check(mirror_until_done(served), "a turn")
+    shown = (SERVICE.parent / "README.md").read_text().split("for both:\n\n")[1]
+    block = [line[4:] for line in shown.split("\n\n|")[0].splitlines()]
+    users = {"ann": ANN, "bob": BOB}
+    told: list[str] = []
+    for line in block:
+        user, is_command, command = line.partition("$ wumpus-ask ")
+        if is_command:
+            words = ["--no-color", *shlex.split(command), f"in:{top}"]
+            out = ask_at_terminal(served, *words, user=users[user])[1]
+            told += [line, *out.replace(str(top), "").splitlines()]
+    score.check(told == block, f"README shows {block}, and there is {told}")
+    page = (SERVICE / "man" / "wumpus-ask.1").read_text()
+    examples = [line[2:] for line in page.splitlines() if line.startswith("$ ")]
+    score.check(len(examples) > 6, "the examples of the manual page")
+    asks = shlex.join(words_of_client(served))
+    for example in examples:
+        if example.startswith("vim"):
+            continue  # it wants a terminal
+        script = example.replace("wumpus-ask", asks, 1)
+        ran = subprocess.run(["bash", "-c", script], capture_output=True, text=True)
+        is_good = ran.returncode in (0, 1, 123) and not ran.stderr
+        score.check(is_good, f"{example}: {ran.returncode} {ran.stderr}")
+
+
 def main() -> int:
     """Runs the test."""
     given = options(__doc__ or "").parse_args()
@@ -413,6 +458,7 @@ def main() -> int:
             score.check(mirror_until_done(served), "a turn")
             for part in (
                 pipes, values, terminals, reasons, changed, other_programs, messages, others,
+                readme,
             ):  # fmt: skip
                 part(served, score)
         finally:

@@ -169,6 +169,7 @@ ARGUMENTS = (
     (["-A", "2", "-B3", "budget"], b"budget"),
     (["--", "-l", "--json"], b"-l --json"),
     (["-l5", "budget"], b"-l5 budget"),
+    (["-l0", "budget"], b"budget"),
     (["-5"], b"-5"),
     (["--json", "-L", "budget"], b"budget"),
     (["caf\udce9"], b"caf\xe9"),

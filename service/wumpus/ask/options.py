@@ -94,6 +94,9 @@ def divide(arguments: Sequence[str], known: Known) -> tuple[list[str], list[str]
         argument = waiting.pop(0)
         if argument == "--":
             return options, words + waiting
+        if argument == "-l0":
+            options += ["-l", "-0"]  # the one pair of letters that everybody writes so
+            continue
         short = re.fullmatch(r"(-[A-Za-z0-9])([0-9]*)", argument)
         if argument.startswith("--"):
             options.append(argument)
