@@ -34,6 +34,7 @@ _NAMED = re.compile(rb"([A-Za-z]+):", re.DOTALL)
 _NEAR = re.compile(rb"NEAR(?:/(.*))?", re.DOTALL)
 _STARRED = re.compile(rb"[^*]*?([0-9A-Za-z\x80-\xff]+)\*", re.DOTALL)
 _ALIKE = re.compile(rb"[0-9A-Za-z\x80-\xff]~[0-9.]*$")
+_NEEDS_NO_QUOTES = re.compile(rb"[0-9A-Za-z_./+@%-]+")
 _STAR_IN_QUOTES = re.compile(rb"[0-9A-Za-z\x80-\xff]\*")
 
 Leaf = TypeVar("Leaf")
@@ -194,6 +195,13 @@ _NO_STAR = "a * stands at the end of a word, and nothing else stands for letters
 def text_of(some: bytes) -> str:
     """The bytes as text; those that are no UTF-8 as surrogates."""
     return some.decode("utf-8", "surrogateescape")
+
+
+def quoted(value: bytes) -> bytes | None:
+    """A value as a filter has it; None where it has a quote, which no filter can have."""
+    if _QUOTES.search(value):
+        return None
+    return value if _NEEDS_NO_QUOTES.fullmatch(value) else b'"%b"' % value
 
 
 # ---- tokens

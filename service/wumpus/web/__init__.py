@@ -1,0 +1,1 @@
+"""The page: a search of one user in her own browser."""
