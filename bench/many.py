@@ -20,9 +20,9 @@ sys.path.insert(0, str(SERVICE))
 
 from wumpus.mirror import look  # noqa: E402
 from wumpus.mirror.batch import Batch  # noqa: E402
-from wumpus.mirror.command import one_turn  # noqa: E402
+from wumpus.mirror.command import without_cycles  # noqa: E402
+from wumpus.mirror.limits import Limits  # noqa: E402
 from wumpus.mirror.turn import Mirror, Wish  # noqa: E402
-from wumpus.mirror.walk import Limits  # noqa: E402
 from wumpus.shared.progress import Progress  # noqa: E402
 
 IN_DIRECTORY = 100
@@ -54,8 +54,11 @@ class Nothing:
     def reset(self) -> None:
         """Nothing is there that could be moved aside."""
 
+    def fed(self, moment: int) -> None:
+        """Nobody is answered."""
+
     def done(self) -> None:
-        """A turn is over."""
+        """All was fed once."""
 
     def close(self) -> None:
         """Nothing is open."""
@@ -81,7 +84,8 @@ def turn(what: str, tree: Path, store: Path) -> None:
     began = time.monotonic()
     mirror = Mirror(Nothing(store), store, Progress("many", True))
     mirror.begin(False)
-    told = one_turn(mirror, Wish((os.fsencode(tree),), Limits(), {}))
+    with without_cycles():
+        told = mirror.turn(Wish((os.fsencode(tree),), Limits(), {}))
     usage = resource.getrusage(resource.RUSAGE_SELF)
     spent = usage.ru_utime + usage.ru_stime
     size = sum(one.stat().st_size for one in store.glob("mirror.state"))

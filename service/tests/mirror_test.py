@@ -264,6 +264,7 @@ def owner(folder: Path, program: str, score: Score) -> None:
     finally:
         child.terminate()
         child.wait(60)
+    place.mirror()
     told = subprocess.run(
         [program, "run"], input=b'count\t0\t"quince"\n', capture_output=True, cwd=place.store,
         user=DAEMON, group=DAEMON,
