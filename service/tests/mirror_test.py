@@ -76,6 +76,27 @@ def options_of(place: Place, score: Score) -> None:
     score.check(" 0 texts" in place.mirror()[2], "a file that was written with the same text")
 
 
+def declined(place: Place, score: Score) -> None:
+    """A directory that says it isn't to be searched; another user can't say so of it."""
+    for name in ("own", "others"):
+        (place.tree / name / "below").mkdir(parents=True)
+        (place.tree / name / "below" / "file").write_text("apple\n")
+    place.mirror()
+    due = {"own/below/file", "others/below/file"}
+    score.check(due <= set(place.paths()), "two directories")
+    for name in ("own", "others"):
+        (place.tree / name / ".nowumpus").touch()
+    if os.geteuid() == 0:
+        os.chown(place.tree / "others" / ".nowumpus", DAEMON, DAEMON)
+    told = place.mirror()[2]
+    left = due & set(place.paths())
+    wanted = {"others/below/file"} if os.geteuid() == 0 else set()
+    score.check(left == wanted, f"what says that it isn't to be searched: {left}")
+    score.check(f"{place.tree / 'own'}: it has a file .nowumpus" in told, f"and is told: {told}")
+    for name in ("own", "others"):
+        shutil.rmtree(place.tree / name)
+
+
 def progress(place: Place, score: Score) -> None:
     """Where standard error is a terminal, it tells how far it is: files, bytes, what is left."""
     many = place.tree / "many"
@@ -294,6 +315,7 @@ def main() -> int:
     with folder_of_own() as name:
         place = Place(Path(name), given.program)
         options_of(place, score)
+        declined(place, score)
         progress(place, score)
         odd_files(place, score)
         losses(place, score)

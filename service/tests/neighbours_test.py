@@ -27,6 +27,7 @@ from service_test import (
 )
 
 from wumpus.mirror import mounts, users  # isort: skip
+from wumpus.shared import store  # isort: skip
 from wumpus.mirror.plan import Groups  # isort: skip
 from wumpus.mirror.budget import Accounts, Budget  # isort: skip
 from wumpus.mirror.remarks import Remarks  # isort: skip
@@ -158,6 +159,22 @@ def slow_names(score: Score) -> None:
     score.check(known.found == {1001: (2000,)}, "users that it told at last")
 
 
+def set_aside(folder: Path, score: Score) -> None:
+    """A store that was moved aside is told of once, and removed when it is old."""
+    (folder / store.ASIDE / "deep").mkdir(parents=True)
+    lines: list[str] = []
+    aside = store.Aside(folder, lines.append)
+    with mock.patch.object(store.Aside, "EVERY", 0.0):
+        aside.look()
+        aside.look()
+        score.check(len(lines) == 1 and (folder / store.ASIDE).exists(), f"a store aside: {lines}")
+        with mock.patch.object(store.Aside, "KEPT", -1.0):
+            aside.look()
+        score.check(len(lines) == 2 and not (folder / store.ASIDE).exists(), f"old: {lines}")
+        aside.look()
+    score.check(len(lines) == 2, "none is told of")
+
+
 def hold(sockets: Path, user: int, seconds: float) -> int:
     """Two connections of a user, of which each sends half a line."""
     child = os.fork()
@@ -254,6 +271,7 @@ def main() -> int:
         still(folder, score)
         of_lines(score)
         slow_names(score)
+        set_aside(folder, score)
         of_disk(folder, given.program, score)
         for one in ("mirror", "service"):
             (folder / one).mkdir()

@@ -46,8 +46,7 @@ class Root:
         limits = [f"--bounding-set=-all{',+' + capability if capability else ''}"]
         if capability:
             limits += [f"--inh-caps=-all,+{capability}", f"--ambient-caps=-all,+{capability}"]
-        as_user = ["setpriv", f"--reuid={user}", f"--regid={user}", *limits]
-        as_user += ["--groups=_wumpus-mirror"] if user == "_wumpus" else ["--clear-groups"]
+        as_user = ["setpriv", f"--reuid={user}", f"--regid={user}", "--clear-groups", *limits]
         return self.start(*as_user, "--no-new-privs", *words)
 
     def ask(self, user: str, *words: str) -> tuple[int, str]:

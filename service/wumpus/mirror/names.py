@@ -15,6 +15,7 @@ from .seen import FreshFile, Kept, SeenDirectory
 from .visit import Listing
 from .way import Step
 
+DECLINES = b".nowumpus"
 CHUNK = 1000  # names after which the time of a listing is counted
 PLACE_FLAGS = os.O_PATH | os.O_NOFOLLOW | os.O_CLOEXEC
 
@@ -24,6 +25,18 @@ def _is_as_known(known: Node, status: os.stat_result) -> bool:
     plain = (status.st_mode & 0o7777, status.st_uid, status.st_gid)
     same = abs(known.changed) == status.st_ctime_ns and known.size == status.st_size
     return same and known.rights[:3] == plain
+
+
+def is_declined(step: Step) -> bool:
+    """Whether a directory says that it isn't to be searched, by a file of its owner's or of root's.
+
+    Who may only put files there can't hide those of others so. Raises `OSError`.
+    """
+    try:
+        status = os.stat(DECLINES, dir_fd=step.descriptor, follow_symlinks=False)
+    except FileNotFoundError:
+        return False
+    return status.st_uid in (0, step.directory.rights.owner)
 
 
 class FileSystems:

@@ -14,7 +14,7 @@ from .access import BadList
 from .budget import Accounts
 from .keep import DEEPEST
 from .limits import BadRoot, Limits, places_of_roots
-from .names import FileSystems, Names, Reading
+from .names import DECLINES, FileSystems, Names, Reading, is_declined
 from .nodes import ROOT, Identity, Node, Rights, Tree, device_of, identity_of, inode_of
 from .reasons import Reason
 from .remarks import Remarks, path_of
@@ -332,7 +332,7 @@ class Walk:
         fresh: list[Visit] = []
         known: list[Visit] = []
         names = self.old.entries.get(directory.number, {})
-        if visit.place is None or visit.place.is_root:
+        if self._is_wanted(visit, step):
             if visit.place is not None:
                 device = device_of(directory.identity)
             reading = Reading(listing, names, self.accounts, self.ways.account_of(directory))
@@ -344,6 +344,19 @@ class Walk:
             for name, place in places.items()
         ]
         self.waiting += [*fresh[::-1], *known[::-1], *ways]
+
+    def _is_wanted(self, visit: Visit, step: Step) -> bool:
+        """Whether the names of a directory are read: not only on the way to a root, nor declined."""
+        if visit.place is not None and not visit.place.is_root:
+            return False
+        try:
+            declined = is_declined(step)
+        except OSError:
+            return True  # reading the names meets the same error, and tells it
+        if declined:
+            path = path_of(visit.above, visit.name)
+            self.remarks.leave_out(path, f"it has a file {os.fsdecode(DECLINES)}")
+        return not declined
 
     # ---- what stood still
 

@@ -14,7 +14,7 @@ from types import FrameType
 from ..shared.accounts import system_account
 from ..shared.notify import notify
 from ..shared.program import Program, die_with_parent
-from ..shared.store import ASK, CONTROL, Failed, check_own, only_program
+from ..shared.store import ASK, CONTROL, Aside, Failed, check_own, only_program
 from .loop import Places, Service
 from .options import allowed_of, bounds_of, mode_of, parser
 from .persons import Persons
@@ -88,9 +88,11 @@ def serve(given: argparse.Namespace) -> int:
     reports = Reports(folder, log)
     persons = Persons(log, Path(given.subuid))
     persons.look()
+    aside = Aside(folder, log)
 
     def tick(service: Service) -> None:
         mirrors.look()
+        aside.look()
         reports.look(service)
 
     try:

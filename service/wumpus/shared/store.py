@@ -8,7 +8,8 @@ import fcntl
 import os
 import shutil
 import stat
-from collections.abc import Iterator
+import time
+from collections.abc import Callable, Iterator
 from pathlib import Path
 
 FOLDER = "/var/lib/wumpus"
@@ -63,6 +64,37 @@ def room_left(folder: Path) -> int:
     disk = os.statvfs(folder)
     kept = min(ROOM_LEFT, disk.f_blocks * disk.f_frsize // 10)
     return disk.f_bavail * disk.f_frsize - kept
+
+
+class Aside:
+    """The store that was moved aside in a folder: it is told of, and removed after a week."""
+
+    KEPT = 7 * 86_400.0  # seconds
+    EVERY = 3600.0
+
+    def __init__(self, folder: Path, log: Callable[[str], None]) -> None:
+        self.path = folder / ASIDE
+        self.log = log
+        self.looked: float | None = None
+        self.is_told = False
+
+    def look(self) -> None:
+        """Looks for it, at most once an hour."""
+        now = time.monotonic()
+        if self.looked is not None and now - self.looked < self.EVERY:
+            return
+        self.looked = now
+        try:
+            age = time.time() - os.lstat(self.path).st_ctime
+        except FileNotFoundError:
+            self.is_told = False
+            return
+        if age > self.KEPT:
+            shutil.rmtree(self.path, ignore_errors=True)
+            self.log(f"{self.path} was moved aside {age / 86_400:.0f} days ago: it is removed")
+        elif not self.is_told:
+            self.is_told = True
+            self.log(f"{self.path} has the texts of all users: it is removed after a week")
 
 
 def move_aside(folder: Path) -> None:
