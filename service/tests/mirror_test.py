@@ -273,8 +273,8 @@ def owner(folder: Path, program: str, score: Score) -> None:
     os.chown(place.store, DAEMON, DAEMON)
     child = subprocess.Popen(place.words("--every", "60", "--quiet"))
     try:
-        written = place.store / "mirror.state"
-        wait_for(written.exists)
+        written = place.store / "mirror.status"
+        wait_for(lambda: written.exists() and '"waiting"' in written.read_text())
         status = Path(f"/proc/{child.pid}/status").read_text()
         due = {"Uid": str(DAEMON), "CapEff": f"{READ_ALL:016x}", "CapBnd": f"{READ_ALL:016x}"}
         for name, value in due.items():

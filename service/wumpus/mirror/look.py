@@ -80,7 +80,9 @@ class Looker:
         waiting = deque(places)
         while waiting:
             found += [self._until_still(place, seen) for place, seen in self._window(waiting)]
-        self.accounts.of_owner(places[0].file.owner).seconds -= time.monotonic() - began
+        if found:
+            owner = found[0].place.file.owner
+            self.accounts.of_owner(owner).seconds -= time.monotonic() - began
         return found
 
     def _until_still(self, place: Place, outcome: Outcome) -> Looked | Failed:

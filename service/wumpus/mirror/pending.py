@@ -69,7 +69,7 @@ class Pending:
             sorted(self.turns, key=lambda person: not _is_below(self.queues[person][0], paths))
         )
 
-    def take(self) -> list[Place]:
+    def take(self, most: int = FILES_OF_WINDOW) -> list[Place]:
         """The next files of the person whose turn it is, as many as go into a window."""
         taken: list[Place] = []
         size = 0
@@ -77,7 +77,7 @@ class Pending:
             return taken
         person = self.turns.popleft()
         queue = self.queues[person]
-        while queue and len(taken) < FILES_OF_WINDOW:
+        while queue and len(taken) < min(most, FILES_OF_WINDOW):
             size += queue[0].cost
             if taken and size > BYTES_OF_WINDOW:
                 break

@@ -104,7 +104,7 @@ class Mirror:
         self.accounts = Accounts(Budget(), int)  # of the looks since the last walk
         self.room: Room | None = None
         self.is_done = False  # the program was told that all was fed once
-        self.limit = FIRST_BYTES  # of texts in a batch: less, where the program has no memory
+        self.most = sys.maxsize  # files in a batch: less, where the program has no memory for more
 
     @property
     def state(self) -> State:
@@ -198,7 +198,8 @@ class Mirror:
         if self.pending.turns:
             texts = Texts(self.folder)
             try:
-                taken = self._take(wish, time.monotonic() + seconds, texts)
+                limit = SLICE_BYTES if self.state.complete else FIRST_BYTES
+                taken = self._take(wish, time.monotonic() + seconds, texts, limit)
                 if taken:
                     self._feed(wish, taken, texts)
             finally:
@@ -208,15 +209,15 @@ class Mirror:
             self._be_complete()
         return bool(self.pending.turns)
 
-    def _take(self, wish: Wish, until: float, texts: Texts) -> list[Looked]:
-        """Looks at files, of each person some in turn, until a batch is full or time is over."""
+    def _take(self, wish: Wish, until: float, texts: Texts, limit: float) -> list[Looked]:
+        """Looks at files, of each person some in turn, until time is over or a batch is full."""
         if self.room is None:
             self.room = Room(self.folder, wish.budget, self.state.tree, wish.person_of)
         looker = Looker(self.accounts, wish.limits.access, self.progress.warn_of)
         taken: list[Looked] = []
         try:
-            while time.monotonic() < until and texts.size < self.limit:
-                places = self.pending.take()
+            while time.monotonic() < until and texts.size < limit and len(taken) < self.most:
+                places = self.pending.take(self.most - len(taken))
                 if not places:
                     break
                 taken += self._look_at(looker, self.room, places, texts)
@@ -284,14 +285,13 @@ class Mirror:
             if len(taken) == 1:
                 self._shut(taken[0].place, Reason.MEMORY)
                 return
-            self.limit = max(1, texts.size // 2)
+            self.most = len(taken) // 2
             self.pending.put_back([found.place for found in taken], wish.person_of)
             return
         self.pulse()
         self.report.texts += texts.count
         self.report.size += texts.text_bytes
-        most = SLICE_BYTES if self.state.complete else FIRST_BYTES
-        self.limit = min(most, 2 * self.limit)
+        self.most = min(sys.maxsize, 2 * self.most)
 
     # ---- a dry run
 
@@ -301,10 +301,9 @@ class Mirror:
         self.feeder.state = replace(self.state, tree=target.tree, complete=False)
         self.pending.renew(target.places, wish.person_of)
         texts = Texts(self.folder)
-        self.limit = sys.maxsize
         try:
-            for found in self._take(wish, math.inf, texts):
-                target.tree.nodes[found.node.number] = found.node
+            found = self._take(wish, math.inf, texts, math.inf)
+            target.tree.nodes.update((one.node.number, one.node) for one in found)
             plan = plan_all(old, target.tree, self.state.users, wish.users)
             out.writelines(plan.head)
             texts.file.seek(0)
