@@ -40,7 +40,8 @@ BOUND = 10.0  # seconds more, after which what was taken away is gone
 STALE = 20  # seconds
 SLACK = 1.0  # seconds that a clock which is looked at now and then may be late
 TAKEN_EVERY = 2.0
-SELDOM = 4.0  # seconds for an answer, on the average, or nothing is shown
+LAST = 5  # answers without what was taken away, and a trial is over
+LONGEST = 60.0  # seconds in which they have to come after the last right was taken away
 SHARED = 3000
 ANN = User(1000, (1000, SHARED))
 BOB = User(1001, (1001, SHARED))
@@ -269,7 +270,7 @@ class Trial:
         if self.attack.ends_in_stale:
             self._wait(STALE + SLACK)
         else:
-            self._wait(PERIOD + BOUND + SLACK, self._is_all_gone)
+            self._wait(LONGEST, self._is_all_gone)
         self.answers = self._read()
 
     def _read(self) -> list[Answer]:
@@ -278,10 +279,11 @@ class Trial:
         return [Answer(*json.loads(line)) for line in lines]
 
     def _is_all_gone(self) -> bool:
-        """Whether the last answer tells of nothing that was taken away."""
-        last = self._read()[-1:]
-        asked_since = bool(last) and last[0].asked > max(self.home.taken.values())
-        return asked_since and not last[0].refused and not set(last[0].told) & set(self.home.taken)
+        """Whether the last answers tell of nothing that was taken away."""
+        answers = [answer for answer in self._read() if not answer.refused][-LAST:]
+        taken, since = set(self.home.taken), max(self.home.taken.values())
+        gone = [answer.asked > since and not taken & set(answer.told) for answer in answers]
+        return len(gone) == LAST and all(gone)
 
     def _wait(self, seconds: float, is_over: Callable[[], bool] = lambda: False) -> None:
         """Waits, while which a mirror that ended begins again."""
@@ -330,8 +332,8 @@ def check(trial: Trial, score: Score) -> None:
         f"without a file that stayed; refused: {refusals}",
         flush=True,
     )
-    few = f"{name}: bob was answered {len(answered)} times in {trial.seconds:.0f} s"
-    score.check(len(answered) * SELDOM >= trial.seconds, few)
+    few = f"{name}: bob was answered {len(answered)} times: that shows nothing"
+    score.check(len(answered) >= LAST, few)
     part = f"{name}: {partial} of {len(answered)} answers were without a file that stayed"
     score.check(partial * 2 <= len(answered), part)
     score.check(most <= STALE + SLACK, f"{name}: an answer that is {most:.1f} s old")

@@ -23,7 +23,7 @@ from wumpus.shared.program import die_with_parent  # isort: skip
 
 EVE = User(1002, (1002,))
 CAROL = User(1003, (1003,))
-ACCOUNTS = tuple(User(1010 + one, (1010 + one,)) for one in range(12))
+ACCOUNTS = tuple(User(1010 + one, (1010 + one,)) for one in range(6))
 FIRST_SUBORDINATE = 200_000
 SUBORDINATES = tuple(
     User(FIRST_SUBORDINATE + one, (FIRST_SUBORDINATE + one,)) for one in range(36)
@@ -168,7 +168,7 @@ def slow_query(field: Field) -> bytes:
 
 
 def lockstep(field: Field) -> None:
-    """Twelve accounts, of which always one has a slow query under way or waiting."""
+    """Six accounts, of which always one has a slow query under way or waiting."""
     for account in ACCOUNTS:
         field.begin(account, lambda: pressed(field, slow_query(field)))
 
@@ -399,7 +399,7 @@ def stopped(field: Field) -> None:
 
 ATTACKS = (
     Attack("none", "nobody attacks: what is usual here", nothing, nothing),
-    Attack("lockstep", "slow queries of twelve accounts", big_texts, lockstep),
+    Attack("lockstep", "slow queries of six accounts", big_texts, lockstep),
     Attack("dying", "queries in which the program ends", nothing, dying, only_stand_in=True),
     Attack("large", "large files, new texts and modes", nothing, large),
     Attack("restless", "files of 36 subordinate ids change all the while", crowded, restless),
