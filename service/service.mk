@@ -1,7 +1,7 @@
 # The programs around wumpus: make install-service, make service-test, make deb. None is proved.
 # WUMPUS is the built program, and PREFIX and DESTDIR are those of the file that includes this one.
 SERVICE_SBIN := wumpus-extract wumpus-mirror wumpusd wumpus-status wumpus-why
-SERVICE_BIN := wumpus-ask wumpus-lint
+SERVICE_BIN := wumpus-ask wumpus-web wumpus-lint
 SERVICE_PACKAGES := $(notdir $(patsubst %/,%,$(dir $(wildcard service/wumpus/*/__init__.py))))
 SERVICE_SCRIPTS := $(shell grep -slI '^\#!.*python3' \
 	$(wildcard tools/* bench/* service/tests/*) 2>/dev/null | grep -v '\.py$$')
@@ -14,6 +14,7 @@ SERVICE_TESTS := \
 	language \
 	ask \
 	client \
+	web \
 	status \
 	why \
 	limits \
@@ -24,6 +25,7 @@ SERVICE_TESTS := \
 	neighbours \
 	kernel \
 	race \
+	bounds \
 	calls \
 	walls \
 	server \
@@ -51,6 +53,8 @@ install-service:
 		install -m 644 service/wumpus/$$name/*.py \
 			$(DESTDIR)$(PREFIX)/share/wumpus/wumpus/$$name || exit; \
 	done
+	install -d $(DESTDIR)$(PREFIX)/share/wumpus/wumpus/web/page
+	install -m 644 service/wumpus/web/page/* $(DESTDIR)$(PREFIX)/share/wumpus/wumpus/web/page
 	install -m 644 service/man/*.1 $(DESTDIR)$(PREFIX)/share/man/man1
 	install -m 644 service/man/*.8 $(DESTDIR)$(PREFIX)/share/man/man8
 	for name in wumpus $(SERVICE_BIN) $(SERVICE_SBIN); do \

@@ -81,6 +81,15 @@ _wumpus_ask() {
     )
 }
 
+_wumpus_web() {
+    local current=${COMP_WORDS[COMP_CWORD]}
+    if [[ $current == --* || ${COMP_WORDS[COMP_CWORD - 1]} == --sockets ]]; then
+        _wumpus_options "--no-open --unix --host --sockets --version --help" d
+    else
+        _wumpus_ask
+    fi
+}
+
 _wumpus_lint() {
     _wumpus_options "--version --help" f
 }
@@ -99,6 +108,7 @@ complete -o filenames -F _wumpus_mirror wumpus-mirror
 complete -o filenames -F _wumpus_extract wumpus-extract
 complete -o filenames -F _wumpusd wumpusd
 complete -o nosort -F _wumpus_ask wumpus-ask
+complete -o nosort -F _wumpus_web wumpus-web
 complete -o filenames -F _wumpus_lint wumpus-lint
 complete -F _wumpus_status wumpus-status
 complete -o filenames -F _wumpus_why wumpus-why

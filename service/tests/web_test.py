@@ -27,9 +27,12 @@ from kernel import User, become
 from service_test import Served, as_user, mirror_until_done, wait_for
 
 from wumpus.web import command, guard, server  # isort: skip
-from wumpus.web.answers import Answers, narrowed_by  # isort: skip
+from wumpus.web.answers import (  # isort: skip
+    Answers, directories_of, kinds_of, narrowed_by,
+)  # fmt: skip
 from wumpus.web.guard import Keys, Refusal  # isort: skip
 from wumpus.ask import language  # isort: skip
+from wumpus.ask.search import File  # isort: skip
 
 ANN, BOB, ROOT = User(1000, (1000,)), User(1001, (1001,)), User(0, (0,))
 EVIL = "evil<img src=x onerror=alert(1)>\u202e\x1b[1m"
@@ -61,7 +64,7 @@ class Page:
 
     def end(self) -> int:
         """Ends it: its status."""
-        self.process.send_signal(signal.SIGINT)
+        self.process.send_signal(signal.SIGTERM)
         assert self.process.stdout is not None
         self.process.stdout.close()
         return self.process.wait(20)
@@ -498,6 +501,7 @@ def ends(served: Served, score: Score) -> None:
     except Refusal as refusal:
         score.check(refusal.status == 404, f"{refusal}")
     answers.close()
+    _groups(score)
     for typed, due in (
         ("a b", "a b ext:md"), ("a OR b", "(a OR b) ext:md"), ("(a OR b) in:/x", None),
         ("in:/a OR in:/b", "(in:/a OR in:/b) ext:md"), ("-a", "-a ext:md"),
@@ -505,6 +509,32 @@ def ends(served: Served, score: Score) -> None:
         narrowed = narrowed_by(b"ext:md", language.read(typed.encode())).decode()
         score.check(narrowed == (due or f"{typed} ext:md"), f"{typed}: {narrowed}")
         score.check(language.read(narrowed.encode()).paths is not None, f"{narrowed} is read")
+
+
+GROUPS: tuple[tuple[tuple[str, ...], str, dict[str, int]], ...] = (
+    (("/a/b/1", "/a/b/2", "/a/b/3"), "/a/b/", {}),
+    (("/a/b/1", "/a/c/2", "/a/c/d/3", "/a/4"), "/a/", {"b": 1, "c": 2}),
+    (("/home/ann/1", "/home/ann/x/2", "/srv/team/3"), "/", {"home/ann": 2, "srv/team": 1}),
+    ((), "", {}),
+    (("/1", "/2"), "/", {}),
+    (tuple(f"/a/{number}/x/1" for number in range(13)), "/a/", {str(number): 1 for number in
+     (0, 1, 10, 11, 12, 2, 3, 4, 5, 6, 7, 8)}),
+    (tuple(f"/a/x/{number}/1" for number in range(13)) + ("/a/y/2/3",), "/a/", {"x": 13, "y": 1}),
+)  # fmt: skip
+
+
+def _groups(score: Score) -> None:
+    question = language.read(b"a")
+    for paths, within, due in GROUPS:
+        told = directories_of([File(path.encode()) for path in paths], question)
+        groups = {one["name"]: one["count"] for one in told["groups"]}
+        score.check((told["within"], groups) == (within, due), f"{paths}: {told}")
+    strange = [File(name.encode()) for name in ('/a/x"y/1', "/a/b c/2", "/a/\x1b/3", "/a/d/4")]
+    told = directories_of(strange, question)
+    queries = [one.get("query") for one in told["groups"]]
+    score.check(queries == [None, 'a in:"/a/b c"', "a in:/a/d", None], f"{queries}")
+    kinds = kinds_of([File(name) for name in (b"/a.x/b", b"/c.MD", b"/.md", b"/d.t\n")], question)
+    score.check([(one["name"], one["count"]) for one in kinds] == [("md", 2)], f"{kinds}")
 
 
 # ---- in a browser
@@ -678,7 +708,7 @@ def _afterwards(seen: Browser, page: Page, score: Score) -> None:
     seen.visit(page.link)
     score.check(seen.wait(f"{FAULT}.includes('was used')"), "the link isn't good twice")
     seen.complaints.clear()
-    page.process.send_signal(signal.SIGINT)
+    page.process.send_signal(signal.SIGTERM)
     page.process.wait(20)
     seen.value("ask(false), document.getElementById('query').value = 'x'; ask(false)")
     score.check(seen.wait(f"{FAULT}.includes('The server is gone')"), "the server is gone")
@@ -703,7 +733,7 @@ def main() -> int:
             replies(page, token, score)
             ports(page, score)
             crowds(page, token, score)
-            score.check(page.end() == 0, "an interrupt ends it")
+            score.check(page.end() == 0, "a signal ends it")
             part: Callable[[Served, Score], None]
             for part in (sockets, walls, ends):
                 part(served, score)

@@ -208,15 +208,26 @@ def meant_by(question: Question, asking: Asking) -> Meant:
 
 
 def directories_of(files: Sequence[File], question: Question) -> Value:
-    """How many of the files are below each directory of the deepest one that all are in."""
+    """How many of the files are below each directory of the deepest one that all are in.
+
+    They are those at the greatest depth at which they aren't too many, and each file is in one.
+    """
     folders = [file.path.rpartition(b"/")[0].split(b"/") for file in files]
     common = list(os.path.commonprefix(folders))
-    below = Counter(b"/".join(one[: len(common) + 1]) for one in folders if one != common)
+    folders = [one for one in folders if one != common]
+    depth = len(common) + 1
+    below = Counter(b"/".join(one[:depth]) for one in folders)
+    while all(len(one) > depth for one in folders) and folders:
+        deeper = Counter(b"/".join(one[: depth + 1]) for one in folders)
+        if len(deeper) > GROUPS:
+            break
+        below, depth = deeper, depth + 1
+    within = b"/".join([*common, b""])
     groups = [
-        _group(_name(path.rpartition(b"/")[2]), count, b"in:", path, question)
+        _group(_name(path.removeprefix(within)), count, b"in:", path, question)
         for path, count in _most(below)
     ]
-    return {"within": _name(b"/".join(common) or b"/"), "groups": groups}
+    return {"within": _name(within), "groups": groups}
 
 
 def kinds_of(files: Sequence[File], question: Question) -> list[Value]:
