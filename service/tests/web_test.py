@@ -5,6 +5,7 @@ there, the page is used by the keyboard, and attacked by another user's page in 
 """
 
 import errno
+import hmac
 import json
 import os
 import signal
@@ -70,10 +71,16 @@ class Page:
         return self.process.wait(20)
 
 
-def start(served: Served, user: User, *words: str, **variables: str) -> Page:
+def start(
+    served: Served,
+    user: User,
+    *words: str,
+    command: tuple[str, ...] = (str(SERVICE / "wumpus-web"),),
+    **variables: str,
+) -> Page:
     """Runs the page's server as a user."""
     process = subprocess.Popen(
-        [str(SERVICE / "wumpus-web"), "--no-open", "--sockets", str(served.sockets), *words],
+        [*command, "--no-open", "--sockets", str(served.sockets), *words],
         stdout=subprocess.PIPE,
         stderr=subprocess.DEVNULL,
         preexec_fn=lambda: become(user),
@@ -100,12 +107,15 @@ def fill(tree: Path) -> None:
 # ---- raw requests
 
 
-Lines = dict[str, str]
-
-
-def request(page: Page, method: str = "GET", path: str = "/", body: bytes | None = None,
-            drop: tuple[str, ...] = (), more: tuple[tuple[str, str], ...] = (),
-            version: str = "HTTP/1.1") -> bytes:  # fmt: skip
+def request(
+    page: Page,
+    method: str = "GET",
+    path: str = "/",
+    body: bytes | None = None,
+    drop: tuple[str, ...] = (),
+    more: tuple[tuple[str, str], ...] = (),
+    version: str = "HTTP/1.1",
+) -> bytes:
     """A request as the page would make it, but for some of its headers."""
     headers = [("Host", page.host), ("Connection", "close")]
     if body is not None:
@@ -194,8 +204,12 @@ def requests(page: Page, token: str, score: Score) -> None:
     question = json.dumps({"query": "budget", "number": 9}).encode()
     with_token = ("Wumpus-Token", token)
 
-    def post(body: bytes = question, drop: tuple[str, ...] = (),
-             more: tuple[tuple[str, str], ...] = (with_token,), path: str = "/ask") -> bytes:  # fmt: skip
+    def post(
+        body: bytes = question,
+        drop: tuple[str, ...] = (),
+        more: tuple[tuple[str, str], ...] = (with_token,),
+        path: str = "/ask",
+    ) -> bytes:
         return request(page, "POST", path, body, drop, more)
 
     def other(name: str, value: str) -> bytes:
@@ -443,6 +457,9 @@ def walls(served: Served, score: Score) -> None:
     score.check(keys.token_for("x") is None and not keys.fits(keys.ticket), "other keys")
     tokens = [keys.token_for(keys.ticket), keys.token_for(keys.ticket)]
     score.check(tokens == [keys.token, None], "a ticket is good once")
+    once = hmac.digest(keys.token.encode(), b"wumpus-web is here: once", "sha256").hex()
+    score.check(keys.proof_for("once") == once, "the proof of the server")
+    score.check(keys.proof_for("x") != Keys().proof_for("x"), "another server's proof")
     score.check(len({Keys().token for _ in range(9)}) == 9, "tokens differ")
 
 
@@ -612,6 +629,7 @@ def use(served: Served, score: Score) -> None:
         score.check(seen.complaints == [], f"the browser complains: {seen.complaints}")
         attack_in_browser(seen, page, score)
         _afterwards(seen, page, score)
+        left_open(served, seen, score)
     finally:
         seen.close()
         page.end()
@@ -710,8 +728,59 @@ def _afterwards(seen: Browser, page: Page, score: Score) -> None:
     seen.complaints.clear()
     page.process.send_signal(signal.SIGTERM)
     page.process.wait(20)
-    seen.value("ask(false), document.getElementById('query').value = 'x'; ask(false)")
+    seen.value(f"state.token = 'x'; {QUERY}.value = 'x'; ask(false)")
     score.check(seen.wait(f"{FAULT}.includes('The server is gone')"), "the server is gone")
+
+
+def left_open(served: Served, seen: Browser, score: Score) -> None:
+    """A page that is left open tells nothing to who takes the port when its server has ended."""
+    # An ended server's port is held by the system for a minute, but for one that lets it go.
+    script = (
+        "import sys; sys.path.insert(0, sys.argv.pop(1)); from wumpus.web import command, server; "
+        "server.PortServer.allow_reuse_address = True; command.main()"
+    )
+    page = start(served, ANN, command=("/usr/bin/python3", "-c", script, str(SERVICE)))
+    seen.visit(page.link)
+    seen.wait(f"{QUERY} && !{QUERY}.disabled")
+    seen.value(f"{QUERY}.value = 'budget'; ask(false)")
+    score.check(seen.wait(f"{FILES}.length == 1"), "a page of a server that lets its port go")
+    token = seen.value("state.token")
+    page.end()
+    heard: list[bytes] = []
+    with taken(page, heard):
+        seen.value(f"state.provedAt = -PROVED; {QUERY}.value = 'my secret'; ask(false)")
+        score.check(seen.wait(f"{FAULT}.includes('Another server')"), "another is told of")
+    told = b"".join(heard)
+    is_silent = b"/here" in told and b"secret" not in told and token.encode() not in told
+    score.check(is_silent, f"what who took the port is told: {told!r}")
+
+
+@contextmanager
+def taken(page: Page, heard: list[bytes]) -> Iterator[None]:
+    """Another user's server at the port that was the page's."""
+
+    class Taker(BaseHTTPRequestHandler):
+        def do_POST(self) -> None:
+            length = int(self.headers["Content-Length"])
+            heard.append(f"{self.path} {self.headers}".encode() + self.rfile.read(length))
+            body = b'{"proof": "%b", "total": 0, "files": [], "notes": []}' % (b"0" * 64)
+            self.send_response(200)
+            self.send_header("Content-Length", str(len(body)))
+            self.end_headers()
+            self.wfile.write(body)
+
+        def log_message(self, format: str, *args: object) -> None:
+            pass
+
+    other = ThreadingHTTPServer(page.place, Taker)
+    thread = threading.Thread(target=other.serve_forever, args=(0.05,))
+    thread.start()
+    try:
+        yield
+    finally:
+        other.shutdown()
+        thread.join()
+        other.server_close()
 
 
 def main() -> int:

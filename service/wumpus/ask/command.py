@@ -19,7 +19,7 @@ from .forms import Forms, Marks, find_forms
 from .language import Fault, Line, Question, Span
 from .options import query_of, read_arguments
 from .output import Around, Format, Layer, Result, Style, Writer, as_json, has_colour
-from .paths import Standing, condition_of, missing_folders
+from .paths import condition_of, missing_folders, standing_here
 from .places import check_expression, run_expression
 from .results import Choice, Share, of_each_file, of_files, of_places
 from .search import Count, Meant, Search
@@ -140,7 +140,7 @@ def meant_by(question: Question, given: argparse.Namespace, asking: Asking) -> M
             raise Misread(question.typed, fault) from fault
     if question.paths is None:
         return Meant(question, forms, None)
-    standing = Standing(os.getcwdb())
+    standing = standing_here()
     for folder in missing_folders(question.paths, standing):
         tell(f"there is no directory {language.text_of(folder)}")
     return Meant(question, forms, condition_of(question.paths, standing))
@@ -200,10 +200,20 @@ def write_results(search: Search, wish: Wish) -> int:
             written += sum(1 for _ in result.rows()) if wish.wants_lines else 1
             if result.note and wish.format in (Format.LINES, Format.VIMGREP):
                 tell(f"{language.text_of(result.path)}: {result.note}")
-    if wish.style.is_terminal and written < total.number and wish.format is not Format.JSON:
-        left = replace(total, number=total.number - written)
-        tell(f"{told_count(left, 'more line' if wish.wants_lines else 'more file')}: -n shows more")
+    tell_of_more(written, total, wish)
     return FOUND if total.number else NONE
+
+
+def tell_of_more(written: int, total: Count, wish: Wish) -> None:
+    """Says how many results aren't shown: never silently less than was asked for."""
+    what = "line" if wish.wants_lines else "file"
+    if written >= total.number:
+        return
+    if wish.style.is_terminal and wish.format is not Format.JSON:
+        left = replace(total, number=total.number - written)
+        tell(f"{told_count(left, f'more {what}')}: -n shows more")
+    elif wish.given.max_count is None and (wish.given.number is None or written < wish.number):
+        tell(f"{written} of {told_count(total, what)} are shown, and no more at once")
 
 
 def _may_page(wish: Wish) -> bool:

@@ -11,6 +11,7 @@ import unicodedata
 from collections.abc import Callable, Iterable, Sequence
 from dataclasses import dataclass
 
+from .asking import Trouble
 from .language import And, Filter, Not, Subject, Tree, text_of
 
 Condition = Callable[[bytes], bool]
@@ -26,6 +27,14 @@ class Standing:
         """The path from the root on. Symbolic links aren't followed."""
         path = os.path.normpath(os.path.join(self.folder, os.path.expanduser(name)))
         return path[1:] if path.startswith(b"//") else path
+
+
+def standing_here() -> Standing:
+    """The directory in which this process is. Raises `Trouble` where that is gone."""
+    try:
+        return Standing(os.getcwdb())
+    except OSError as error:
+        raise Trouble("the directory that you are in is gone") from error
 
 
 def condition_of(tree: Tree[Filter], standing: Standing) -> Condition:

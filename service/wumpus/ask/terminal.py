@@ -5,7 +5,7 @@ import shlex
 import subprocess
 import sys
 from collections.abc import Iterator
-from contextlib import contextmanager
+from contextlib import contextmanager, suppress
 from typing import IO
 
 from .asking import Trouble
@@ -30,7 +30,15 @@ def paged(wishes_pager: bool) -> Iterator[IO[bytes]]:
     except BrokenPipeError:
         pass  # she has seen enough
     finally:
-        pager.wait()
+        _wait_for(pager)
+
+
+def _wait_for(pager: "subprocess.Popen[bytes]") -> None:
+    """Waits until a pager ended; an interrupt is for that, and not for this program."""
+    while True:
+        with suppress(KeyboardInterrupt):
+            pager.wait()
+            return
 
 
 def _started(words: list[str]) -> "subprocess.Popen[bytes] | None":

@@ -23,7 +23,7 @@ from ..ask.forms import Forms, Marks, find_forms
 from ..ask.language import PREFIX_BYTES, Fault, Question
 from ..ask.matching import Matcher, Shown, best
 from ..ask.output import Layer, Style, cut, shown, text_shown
-from ..ask.paths import Standing, condition_of
+from ..ask.paths import condition_of, standing_here
 from ..ask.search import File, Meant, Search
 from ..shared.script import SHOWN_MAX
 from .guard import Refusal
@@ -200,7 +200,7 @@ def meant_by(question: Question, asking: Asking) -> Meant:
         forms = find_forms(question.texts, Marks.COUNTED, asking.terms)
     condition = None
     if question.paths is not None:
-        condition = condition_of(question.paths, Standing(os.getcwdb()))
+        condition = condition_of(question.paths, standing_here())
     return Meant(question, forms, condition)
 
 

@@ -6,6 +6,7 @@ the user who runs this, as the kernel tells it; and each call has to bring a tok
 was given for a ticket that is good once.
 """
 
+import hmac
 import secrets
 import socket
 import sys
@@ -19,6 +20,8 @@ CONNECTIONS = "/proc/net/tcp"
 _ESTABLISHED = "01"
 _STATE, _USER, _INODE = 3, 7, 9  # fields of a line there
 _TOKEN_BYTES = 32
+
+PROOF = b"wumpus-web is here: "
 
 OWN_SITES = ("same-origin", "none")
 JSON_TYPE = "application/json"
@@ -80,6 +83,14 @@ class Keys:
     def fits(self, token: str) -> bool:
         """Whether it is the token."""
         return _same(token, self.token)
+
+    def proof_for(self, once: str) -> str:
+        """What only the server that gave the token can answer: the page asks before it tells.
+
+        When this server has ended another user may take its port, while the page is open.
+        """
+        said = PROOF + once.encode("utf-8", "surrogateescape")
+        return hmac.digest(self.token.encode(), said, "sha256").hex()
 
 
 def _same(one: str, other: str) -> bool:

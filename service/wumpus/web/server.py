@@ -60,6 +60,7 @@ class Site:
         self.keys = keys
         self.calls = calls
         self.first = first  # what the page is told with its token
+        self.open_calls: dict[str, Call] = {"/enter": self.enter, "/here": self.prove}
         self.host = ""  # to which requests have to be made
         self.files = {path: (kind, (PAGE / name).read_bytes())
                       for path, (name, kind) in FILES.items()}  # fmt: skip
@@ -70,6 +71,10 @@ class Site:
         if token is None:
             raise Refusal(403, "this ticket isn't good, or was used")
         return {"token": token, **self.first}
+
+    def prove(self, value: Value) -> Value:
+        """That this server gave the token."""
+        return {"proof": self.keys.proof_for(str(value.get("once", "")))}
 
 
 class Handler(BaseHTTPRequestHandler):
@@ -95,8 +100,8 @@ class Handler(BaseHTTPRequestHandler):
             check_call(headers, self.server.site.host)
             body = self.rfile.read(length_of_body(headers, BODY_MAX))
             site = self.server.site
-            if self.path == "/enter":
-                answer = site.enter(_value_of(body))
+            if self.path in site.open_calls:
+                answer = site.open_calls[self.path](_value_of(body))
             else:
                 if not site.keys.fits(" ".join(headers.get("wumpus-token", ()))):
                     raise Refusal(403, "this page isn't let in")

@@ -5,6 +5,7 @@ const WAIT = 150; // milliseconds after the last key
 const FIRST = 50; // files of an answer
 const MOST = 1000;
 const TOKEN = "token";
+const PROVED = 3000; // milliseconds for which the server is known to be the one of the token
 
 const at = (id) => document.getElementById(id);
 const query = at("query");
@@ -13,6 +14,7 @@ const pane = at("file");
 
 const state = {
   token: null,
+  provedAt: -PROVED,
   timer: 0,
   asked: null, // the question under way, which a newer one gives up
   number: FIRST,
@@ -56,8 +58,26 @@ function tellFault(text) {
 // ---- the server
 
 async function call(path, value, signal) {
-  const headers = { "Content-Type": "application/json" };
-  if (state.token) headers["Wumpus-Token"] = state.token;
+  await prove();
+  return send(path, value, signal, { "Wumpus-Token": state.token });
+}
+
+// Where the server has ended, another user may have taken its port: nothing is told to that one.
+async function prove() {
+  if (!crypto.subtle || performance.now() - state.provedAt < PROVED) return;
+  const bytes = new TextEncoder();
+  const once = crypto.randomUUID();
+  const { proof } = await send("/here", { once });
+  const how = { name: "HMAC", hash: "SHA-256" };
+  const key = await crypto.subtle.importKey("raw", bytes.encode(state.token), how, false, ["sign"]);
+  const sign = await crypto.subtle.sign(how, key, bytes.encode(`wumpus-web is here: ${once}`));
+  const due = [...new Uint8Array(sign)].map((one) => one.toString(16).padStart(2, "0")).join("");
+  if (proof !== due) throw new Error("Another server answers here: close this page.");
+  state.provedAt = performance.now();
+}
+
+async function send(path, value, signal, more) {
+  const headers = { "Content-Type": "application/json", ...more };
   const request = { method: "POST", headers, body: JSON.stringify(value), signal };
   const reply = await fetch(path, { ...request, credentials: "omit", cache: "no-store" });
   const told = await reply.json();
@@ -67,8 +87,9 @@ async function call(path, value, signal) {
 
 function gone(error) {
   if (error.name === "AbortError") return;
-  const isAway = error instanceof TypeError;
-  tellFault(isAway ? "The server is gone: run wumpus-web again, and use its new link." : error.message);
+  const isAway = error instanceof TypeError || error instanceof SyntaxError;
+  const away = "The server is gone: run wumpus-web again, and use its new link.";
+  tellFault(isAway ? away : error.message);
 }
 
 async function enter() {
@@ -78,7 +99,7 @@ async function enter() {
   let first = "";
   if (ticket) {
     try {
-      const told = await call("/enter", { ticket });
+      const told = await send("/enter", { ticket });
       sessionStorage.setItem(TOKEN, told.token);
       state.token = told.token;
       first = told.query;
