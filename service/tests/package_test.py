@@ -22,7 +22,8 @@ LEFT = (
     "lib/systemd/system/wumpusd.service", "usr/share/doc/wumpus",
 )  # fmt: skip
 PROGRAMS = (
-    "wumpus-mirror", "wumpusd", "wumpus-ask", "wumpus-lint", "wumpus-status", "wumpus-why",
+    "wumpus-mirror", "wumpusd", "wumpus-ask", "wumpus-web", "wumpus-lint", "wumpus-status",
+    "wumpus-why", "wumpus-extract",
 )  # fmt: skip
 
 
