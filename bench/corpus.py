@@ -1,3 +1,4 @@
+#!/usr/bin/env python3
 """A corpus made from a number: a tree of directories and files with texts, users, groups, modes and hard links.
 
 It is written as a script for `wumpus run`, and the same events can be read back from that script, so that a peer is given the same tree

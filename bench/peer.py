@@ -1,3 +1,4 @@
+#!/usr/bin/env python3
 """SQLite's FTS5 over the same corpus, in a process of its own.
 
 `peer.py build SCRIPT DATABASE` loads a corpus. `peer.py optimize DATABASE` merges the index. `peer.py access DATABASE` computes which

@@ -1,3 +1,4 @@
+#!/usr/bin/python3
 """Xapian over the same corpus, in a process of its own.
 
 `xapian_peer.py build SCRIPT DATABASE FOLDER` loads a corpus; who may read which file is taken from the table of FTS5's database.

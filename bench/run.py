@@ -1,5 +1,5 @@
 #!/usr/bin/env python3
-"""Measures the built program beside SQLite's FTS5 and Xapian, and prints a table: bench/run --size 10|100 --wumpus PATH --out FILE.md."""
+"""Measures the built program beside SQLite's FTS5 and Xapian, and prints a table: bench/run.py --size 10|100 --wumpus PATH --out FILE.md."""
 
 import argparse
 import datetime

@@ -1,5 +1,5 @@
 #!/usr/bin/env python3
-"""Measures a user's terms and exports at 100 MB, beside FTS5: bench/terms --wumpus PATH [--size 10|100].
+"""Measures a user's terms and exports at 100 MB, beside FTS5: bench/terms.py --wumpus PATH [--size 10|100].
 
 The words that begin with a prefix, each with the number of the user's files that have it. FTS5's dictionary (fts5vocab) tells the words
 of all files; the peer is asked for her files' words alone, by a join of its instances with the table of her files, which is the one way
@@ -65,7 +65,7 @@ def measure_terms(session: measure.Session, connection: sqlite3.Connection) -> N
             theirs = [seconds_of_peer(connection, user, prefix) for prefix in some]
             words = [count for _, count in mine]
             if words != [count for _, count in theirs]:
-                sys.exit(f"bench/terms: {who}, {some}: {words} words, and {[count for _, count in theirs]} of FTS5")
+                sys.exit(f"bench/terms.py: {who}, {some}: {words} words, and {[count for _, count in theirs]} of FTS5")
             own, other = (sum(it for it, _ in times) / len(some) * 1e3 for times in (mine, theirs))
             print(f"| {who} | {letters} | {sum(words) // len(some)} | {own:.2f} | {other:.0f} |", flush=True)
 

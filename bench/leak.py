@@ -1,5 +1,5 @@
 #!/usr/bin/env python3
-"""Shows that what others keep changes no byte of a user's answers: bench/leak --wumpus PATH.
+"""Shows that what others keep changes no byte of a user's answers: bench/leak.py --wumpus PATH.
 
 It tries the law `two_machines_tell_her_alike`: whatever others do, the same queries over equal views are told the same bytes.
 Two stores agree on what one user may search, and differ in ten thousand files of others. She asks both the same queries: with many

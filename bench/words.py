@@ -1,5 +1,5 @@
 #!/usr/bin/env python3
-"""Measures how fast texts become words: bench/words --wumpus PATH [--beside PATH] [--instructions].
+"""Measures how fast texts become words: bench/words.py --wumpus PATH [--beside PATH] [--instructions].
 
 Each language is a set of letters and lengths of words, from which texts are made by rule: no text of a language is kept here. A session is
 given one text and ends, which saves. Its time is the least of several sessions, less that of a session over as many bytes without a word.
