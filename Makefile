@@ -1,9 +1,9 @@
-# make try      builds without proofs, and says of each example whether it is as expected: 2 minutes
-# make test     the same of all tests: 6 minutes
-# make          proves what the program needs, and builds it: a quarter of an hour
+# make try      builds once without proofs, and runs the examples; SCRIPT=FILE runs that script too
+# make test     builds without proofs, and runs all tests and examples
+# make          proves what the program needs, and builds it
 # make demo     the same, and then tries the examples
 # make install  copies the built program to PREFIX/bin
-# make check    the gate: proves every crate, tries the wrong bodies, runs tests and program
+# make check    the gate: proves every crate, tries wrong bodies, runs all tests, programs and checks
 # make clean    removes what was proved and built
 # make no-memory  refuses each growth of memory in turn, in sessions of the built program; needs a C compiler
 # make edge     runs the built program over real descriptors and folders: closed, full, forbidden, taken
@@ -12,29 +12,32 @@
 PREFIX ?= /usr/local
 JOBS ?= $(shell nproc)
 WUMPUS := crates/wumpus/out/wumpus
-CRATES := $(shell sed -n -e '/_tests:/d' -e '/^wu_rows:/d' -e 's/^\([a-z_0-9]*\):.*/\1/p' crates.txt)
+# What make edge and make service-test run; edge proves and builds it where none is named.
+PROGRAM ?=
+CRATES := $(shell sed -n -e '/_tests:/d' -e '/_rows:/d' -e 's/^\([a-z_0-9]*\):.*/\1/p' crates.txt)
+
+# The longest chain of proofs, which is begun first.
+CHAIN := wu_outside wu_job wu_parts wu_query wu_engine wumpus_run
 
 .PHONY: all try test demo edge install check no-memory clean
 
 all:
 	@mkdir -p out && touch out/started
-	@$(MAKE) --no-print-directory --jobs=$(JOBS) $(WUMPUS)
+	@$(MAKE) --no-print-directory --jobs=$(JOBS) $(CHAIN:%=out/%.proved) $(WUMPUS)
 
 try:
-	@echo 'building without proofs, and running the examples'
-	@tools/test --examples
+	@tools/test --examples $(if $(SCRIPT),--script '$(SCRIPT)')
 	@echo 'This build is not proved: make demo proves it.'
 
 test:
-	@echo 'building without proofs, and running the tests: a line comes as each is done'
 	@tools/test
 	@echo 'Nothing was proved: make check proves it.'
 
 demo: all
 	@tools/test --program $(WUMPUS)
 
-edge: all
-	@tools/edge $(WUMPUS)
+edge: $(if $(PROGRAM),,all)
+	@tools/edge $(or $(PROGRAM),$(WUMPUS))
 
 install: all
 	install -d $(DESTDIR)$(PREFIX)/bin
@@ -42,7 +45,7 @@ install: all
 	@$(MAKE) --no-print-directory install-service
 
 check:
-	rt ci
+	@.ci/run
 
 no-memory: all
 	@tools/no-memory $(WUMPUS)

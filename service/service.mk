@@ -31,7 +31,7 @@ SERVICE_TESTS := \
 	server \
 	bombs \
 	extract
-SERVICE_TEST_PROGRAM ?=
+SERVICE_TEST_PROGRAM ?= $(abspath $(PROGRAM))
 UNITDIR ?= $(PREFIX)/lib/systemd/system
 SYSCONFDIR ?= /etc
 
