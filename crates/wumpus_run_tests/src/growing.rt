@@ -4,7 +4,8 @@ use std::alloc::Global;
 use std::io;
 use wu_rows::{NoAnswer, script};
 
-/// Whether a session over the script writes these replies; both as rows write them, with the line feeds.
+/// Whether a session over the script writes these replies; both as rows write them, with the line
+/// feeds.
 fn agrees(alloc: Global, commands: &str, replies: &str) -> Result<bool, NoAnswer> {
     let output = whole_output(alloc, script(alloc, commands)?)?;
     Ok(output.as_slice() == script(alloc, replies)?.as_slice())

@@ -1,9 +1,9 @@
 //! Sessions over scripts.
-use crate::statuses::name_of;
 use std::alloc::{AllocError, Global};
 use wu_outside::{MemSink, MemSource, PlainStore};
 use wu_rows::{NoAnswer, numbers, script, shown, words};
 use wumpus_run::{Status, run};
+use wumpus_run_rows::{ending, ending_text, name_of};
 
 /// How a session ended, what it wrote, and how often it read and wrote.
 #[derive(Drop)]
@@ -34,7 +34,8 @@ fn run_session(
     })
 }
 
-/// The commands of a session so far, and the replies to them. The store is that of the sessions of one command each.
+/// The commands of a session so far, and the replies to them. The store is that of the sessions of
+/// one command each.
 #[derive(Drop)]
 pub struct Session {
     script: Vec<u8>,
@@ -52,8 +53,9 @@ impl Session {
         }
     }
 
-    /// What a session over the commands so far and this one writes more than one over those before. A session over this
-    /// command alone writes the same where each of those before had its own session over the same store.
+    /// What a session over the commands so far and this one writes more than one over those before.
+    /// A session over this command alone writes the same where each of those before had its own
+    /// session over the same store.
     pub fn reply(&mut self, alloc: Global, command: &str) -> Result<String, NoAnswer> {
         let script = self.with(alloc, command)?;
         let output = whole_output(alloc, script)?;
@@ -67,13 +69,17 @@ impl Session {
 
     /// What a session over the command writes, from what the sessions before it saved.
     fn own_reply(&mut self, alloc: Global, command: &str) -> Result<String, NoAnswer> {
-        let mut script = script(alloc, command)?;
-        script.push(b'\n')?;
-        let mut source = MemSource::new(script, Vec::new(alloc));
-        let mut sink = MemSink::new(alloc, Vec::new(alloc));
-        match run(alloc, &["run"], &mut source, &mut sink, &mut self.store) {
-            Status::Done => shown(alloc, sink.gained()),
-            _ => Err(NoAnswer::BadRow),
+        let line = format!(in alloc; "{command}\\n")?;
+        let ended = ending(
+            alloc,
+            &["run"],
+            Vec::new(alloc),
+            &mut self.store,
+            line.as_str(),
+        )?;
+        match ended.as_str().strip_prefix("done: ") {
+            Some(reply) => Ok(String::from_str(alloc, reply)?),
+            None => Err(NoAnswer::BadRow),
         }
     }
 
@@ -115,8 +121,8 @@ pub fn output(alloc: Global, field: &str) -> Result<String, NoAnswer> {
     shown(alloc, output.as_slice())
 }
 
-/// What a session over the script writes, which ends as it should. It writes the same where memory is full at
-/// each event that adds a posting, and at 7 postings.
+/// What a session over the script writes, which ends as it should. It writes the same where memory
+/// is full at each event that adds a posting, and at 7 postings.
 pub fn whole_output(alloc: Global, script: Vec<u8>) -> Result<Vec<u8>, NoAnswer> {
     let output = output_by(alloc, &["run"], script.as_slice())?;
     for option in ["--flush=1", "--flush=7"] {
@@ -175,8 +181,9 @@ pub fn faulty(alloc: Global, reads: &str, writes: &str, field: &str) -> Result<S
 /// No session of a row reads or writes as often.
 const CALLS_MAX: u64 = 64;
 
-/// The same of the session that the words ask for, where one of its `reads` or of its `writes` fails: the first one, the next one, and
-/// so on up to the number at which the session is done, as it makes no such call.
+/// The same of the session that the words ask for, where one of its `reads` or of its `writes`
+/// fails: the first one, the next one, and so on up to the number at which the session is done, as
+/// it makes no such call.
 pub fn faulty_in_turn(
     alloc: Global,
     calls: &str,
@@ -211,7 +218,5 @@ fn failing_call(alloc: Global, calls: &str, call: u64) -> Result<(Vec<u64>, Vec<
 
 /// How a session ended, and what it had written.
 fn told(alloc: Global, ending: &Ending) -> Result<String, NoAnswer> {
-    let name = name_of(alloc, ending.status)?;
-    let output = shown(alloc, ending.output.as_slice())?;
-    Ok(format!(in alloc; "{name}: {output}")?)
+    ending_text(alloc, ending.status, ending.output.as_slice())
 }

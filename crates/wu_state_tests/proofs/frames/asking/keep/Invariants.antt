@@ -1,5 +1,0 @@
-use Rattle.wu_frames.specs.UserFrames.{CacheMatchesTree}
-use Rattle.wu_state_tests.proofs.frames.asking.keep.Given as goal
-
-abbrev pub invariant-loop-uid : goal.invariant-loop-uid
-invariant-loop-uid l = CacheMatchesTree l.tree l.space.ranges l.cache

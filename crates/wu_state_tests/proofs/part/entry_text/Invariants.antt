@@ -1,5 +1,0 @@
-use Rattle.std.proofs.Common.{length}
-use Rattle.wu_state_tests.proofs.part.entry_text.Given as goal
-
-abbrev pub decreases-loop-block : goal.decreases-loop-block
-decreases-loop-block l = length l.entry.blocks

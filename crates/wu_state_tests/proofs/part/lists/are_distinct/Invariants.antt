@@ -1,6 +1,0 @@
-use Rattle.std.proofs.Common.{drop, eqb}
-use Rattle.std.specs.List.{IsDistinct}
-use Rattle.wu_state_tests.proofs.part.lists.are_distinct.Given as goal
-
-abbrev pub invariant-loop-place : goal.invariant-loop-place
-invariant-loop-place l = IsDistinct eqb (drop l.place l.numbers)

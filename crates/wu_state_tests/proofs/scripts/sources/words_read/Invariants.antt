@@ -1,6 +1,0 @@
-use Rattle.wu_script.specs.Holding.{Follows}
-use Rattle.wu_state_tests.proofs.scripts.sources.words_read.Given as goal
-
--- the source is the one that the reader read from
-abbrev pub invariant-loop : goal.invariant-loop
-invariant-loop g l = Follows (g.I.Source.ended l.source) (g.I.Source.last_read l.source) l.reader
