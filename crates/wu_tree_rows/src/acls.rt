@@ -1,23 +1,87 @@
 //! Access lists as rows write them.
-ghost use Rattle.std.specs.Prelude.{IfOk};
+ghost use Rattle.std.specs.Prelude.{◌≤◌, IfOk, IsTrue};
+ghost use Rattle.std.specs.List.{AllByRecursion};
+ghost use Rattle.wu_access.specs.Access.{IsAcl};
 ghost use Rattle.wu_tree.specs.Steps.{IsEvent};
 
 use std::alloc::{AllocError, Global};
-use wu_access::{Acl, AclEntry};
-use wu_base::{Ino, Sequence};
+use wu_access::{Acl, AclEntry, Perm};
+use wu_base::{Ino, NoMemory, Sequence};
 use wu_rows::{NoAnswer, plain_text, small_number};
-use wu_script::{Command, Line, read_command};
-use wu_tree::{Event, Tree};
+use wu_tree::{Event, Kind, Node, Tree};
 
-/// The event that a script's line spells, whose entries stand as there.
+/// The event that gives the node the access list whose entries the field writes as a script's line
+/// does, or that takes its list away where there are none.
 pub fn event(alloc: Global, ino: &str, entries: &str) -> Result<Event, NoAnswer>
     ensures { IfOk result (λ event. IsEvent event) }
 {
-    let line = format!(in alloc; "acl\t{ino}\t{entries}")?;
-    match read_command(alloc, line.as_bytes())? {
-        Line::Command(Command::Update(event)) => Ok(event),
-        _ => Err(NoAnswer::BadRow),
+    let ino = small_number(ino)?;
+    if entries.is_empty() {
+        return Ok(Event::Acl {
+            ino,
+            acl: None,
+            mask: 0,
+        });
     }
+    let (acl, mask) = list_and_mask(alloc, entries)?;
+    setting(alloc, ino, acl, mask)
+}
+
+/// The event that gives the node this access list, with that mask.
+fn setting(alloc: Global, ino: Ino, acl: Acl, mask: u8) -> Result<Event, NoAnswer>
+    ensures { IfOk result (λ event. IsEvent event) }
+{
+    let lists = [(1, acl)];
+    if mask > 7 || !are_acls(alloc, &lists)? {
+        return Err(NoAnswer::BadRow);
+    }
+    let [(_, acl)] = lists;
+    Ok(Event::Acl {
+        ino,
+        acl: Some(acl),
+        mask,
+    })
+}
+
+/// Whether a tree of the root alone is rebuilt with these lists, which are then lists that a node
+/// may have.
+fn are_acls(alloc: Global, acls: &[(Ino, Acl)]) -> Result<bool, NoMemory>
+    ensures { IfOk result (λ are. IsTrue are → AllByRecursion (λ acl. IsAcl acl.1) acls.now) }
+{
+    let perm = Perm {
+        uid: 0,
+        gid: 0,
+        mode: 0o755,
+    };
+    let root = Node {
+        kind: Kind::Directory,
+        perm,
+    };
+    match Tree::rebuild(alloc, &[(1, root)], &[], &[], acls)? {
+        Some(_tree) => Ok(true),
+        None => Ok(false),
+    }
+}
+
+/// The list of a field of entries, which begin with the owning group's and end with the mask.
+fn list_and_mask(alloc: Global, field: &str) -> Result<(Acl, u8), NoAnswer> {
+    let parts = parts_of(alloc, field)?;
+    let [_, _, owning, entries @ .., _, _, mask] = parts.as_slice() else {
+        return Err(NoAnswer::BadRow);
+    };
+    let mask = bits_of(mask)?;
+    Ok((list(alloc, owning, entries)?, mask))
+}
+
+/// The tag, the number and the bits of each entry.
+fn parts_of(alloc: Global, field: &str) -> Result<Vec<&str>, NoAnswer> {
+    let mut parts = Vec::new(alloc);
+    for entry in field.split(',') {
+        for part in entry.split(':') {
+            parts.push(part)?;
+        }
+    }
+    Ok(parts)
 }
 
 /// The node and the list that the words spell: its number, the owning bits, and then for each entry
@@ -26,12 +90,16 @@ pub fn acl(alloc: Global, words: &[&str]) -> Result<(Ino, Acl), NoAnswer> {
     let [ino, owning, entries @ ..] = words else {
         return Err(NoAnswer::BadRow);
     };
-    let acl = Acl {
+    let ino = small_number(ino)?;
+    Ok((ino, list(alloc, owning, entries)?))
+}
+
+fn list(alloc: Global, owning: &str, entries: &[&str]) -> Result<Acl, NoAnswer> {
+    Ok(Acl {
         owning: bits_of(owning)?,
         users: entries_of(alloc, "u", entries)?,
         groups: entries_of(alloc, "g", entries)?,
-    };
-    Ok((small_number(ino)?, acl))
+    })
 }
 
 fn entries_of(alloc: Global, tag: &str, words: &[&str]) -> Result<Sequence<AclEntry>, NoAnswer> {
