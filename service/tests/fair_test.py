@@ -37,7 +37,9 @@ EVE = 3000  # who has the numbers from FIRST_OF_EVE on
 FIRST_OF_EVE = 300_000
 NUMBERS = 65_536
 SLOW = b'count\t"busy300"'
-SECONDS = 6.0
+SECONDS = 6.0  # or as many as slow queries take
+SLOW_ONES = 15
+WAITING = 300.0  # seconds for an answer, on a machine with other work
 AHEAD = 500
 TOO_SLOW = b"refused\ttooslow"
 STOPPED = b"refused\tstopped"
@@ -114,7 +116,7 @@ def of_turns(score: Score) -> None:
     now = [0.0]
     turns = Turns(lambda: now[0])
     for user in (1, 2):
-        turns.note(user)
+        turns.note(user, user)
     served: dict[int, float] = {1: 0.0, 2: 0.0}
     counts = {1: 0, 2: 0}
     for one in (1, 2, 1, 2):
@@ -127,16 +129,40 @@ def of_turns(score: Score) -> None:
         now[0] += taken
         served[query.person] += taken
         counts[query.person] += 1
-        turns.charge(query.person, taken)
+        turns.note(query.person, query.user)
+        turns.count_time(query.person, taken)
         turns.put(query_of(query.person, query.user, now[0]))
     score.check(counts[2] > 50 * counts[1], f"queries of a slow and a quick one: {counts}")
     score.check(abs(served[1] - served[2]) < 1.5, f"their seconds: {served}")
-    turns.put(query_of(3, 2, now[0]))
-    first = turns.take()
-    score.check(first is not None and first.person == 3, "who is new is next")
     for person in range(20_000):
         turns.charge(person, 0.1)
     score.check(len(turns.used) <= 10_000, f"{len(turns.used)} clocks are kept")
+
+
+def of_newcomers(score: Score) -> None:
+    """Twelve who are new, with slow queries, don't all go before one who asked quick ones."""
+    turns = Turns(lambda: 10.0)
+    order: list[int] = []
+
+    def next_one() -> None:
+        query = turns.take()
+        if query is not None:
+            order.append(query.person)
+            turns.note(query.person, query.user)
+            turns.count_time(query.person, 0.01 if query.person == 2 else 2.0)
+
+    for _ in range(5):
+        turns.put(query_of(2, 2, 0.0))
+        next_one()
+    for person in range(10, 22):
+        turns.note(person, person)
+        turns.put(query_of(person, person, 0.0))
+    for _ in range(4):
+        turns.put(query_of(2, 2, 0.0))
+        next_one()
+        next_one()
+    quick = [place for place, person in enumerate(order) if person == 2]
+    score.check(len(quick) == 9, f"each of her queries waits for one of theirs at most: {order}")
 
 
 def of_groups(score: Score) -> None:
@@ -239,7 +265,7 @@ def answers(sockets: Path, queries: list[bytes], seconds: float) -> bytes:
     until = time.monotonic() + seconds
     due = 0
     with socket.socket(socket.AF_UNIX, socket.SOCK_STREAM) as connection:
-        connection.settimeout(20)
+        connection.settimeout(WAITING)
         connection.connect(str(sockets / "ask"))
         while time.monotonic() < until:
             if due < len(queries):
@@ -288,14 +314,22 @@ def honest(sockets: Path, seconds: float) -> bytes:
     return told
 
 
+def seconds_for(served: Served) -> float:
+    """How long a test is to take, so that there are some slow queries in it."""
+    began = time.monotonic()
+    served.ask(CAROL, SLOW)
+    return max(SECONDS, SLOW_ONES * (time.monotonic() - began))
+
+
 def by_person(served: Served, score: Score) -> None:
     """Slow queries under eight numbers of one person: an honest user waits for one of them."""
+    seconds = seconds_for(served)
     children = [
-        beside(User(FIRST_OF_EVE + one, (1,)), lambda: answers(served.sockets, [SLOW], SECONDS))
+        beside(User(FIRST_OF_EVE + one, (1,)), lambda: answers(served.sockets, [SLOW], seconds))
         for one in range(8)
     ]
     time.sleep(0.5)
-    good = beside(ANN, lambda: honest(served.sockets, SECONDS - 1.0))
+    good = beside(ANN, lambda: honest(served.sockets, seconds - 1.0))
     told = results([good, *children])
     asked = [tuple(told[0][place : place + 3]) for place in range(0, len(told[0]), 3)]
     slow = sorted(one for some in told[1:] for one in some)
@@ -309,13 +343,14 @@ def by_person(served: Served, score: Score) -> None:
 def by_time(served: Served, score: Score) -> None:
     """Slow queries and quick ones, asked ahead: who has quick ones gets far more answers."""
     dear = [User(3005, (3005, 77777, one)) for one in (1, 2)]
+    seconds = seconds_for(served)
     for name, users, query in (
         ("slow queries", [User(3004, (3004,))], SLOW),
         ("changing groups", dear, COUNT),
     ):
-        asks = partial(answers, served.sockets, [query], SECONDS)
+        asks = partial(answers, served.sockets, [query], seconds)
         slow = [beside(user, asks) for user in users]
-        quick = beside(BOB, partial(answers, served.sockets, [COUNT] * AHEAD, SECONDS))
+        quick = beside(BOB, partial(answers, served.sockets, [COUNT] * AHEAD, seconds))
         told = results([quick, *slow])
         many, few = len(told[0]), sum(len(one) for one in told[1:])
         print(f"fair: {many} quick answers beside {few} of {name}")
@@ -487,7 +522,7 @@ def main() -> int:
     needs_root("fair")
     needs_program("fair", given.program)
     score = Score("fair")
-    for part in (of_persons, of_waits, of_turns, of_groups, of_merging, of_losses):
+    for part in (of_persons, of_waits, of_turns, of_newcomers, of_groups, of_merging, of_losses):
         part(score)
     with folder_of_own() as name:
         folder = Path(name)

@@ -82,15 +82,18 @@ class Engine:
             self.charge = None
 
     def drop(self, failure: Failure) -> None:
-        """Kills the program, and begins it again: at once where only a task was too slow."""
+        """Kills the program, and begins it again: at once where a query is why.
+
+        Who asks such queries waits herself, and the others needn't.
+        """
         self._note(failure.why)
         taken = time.monotonic() - self.since
         self._end_program()
-        if failure.cause is Cause.SLOW:
+        task, self.task = self.task, None
+        if failure.cause is Cause.SLOW or (task is not None and task.seconds is not None):
             self.begin_at = 0.0
         else:
             self._put_off()
-        task, self.task = self.task, None
         self.lost()
         if task is not None:
             task.fail(failure, taken)

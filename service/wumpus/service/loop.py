@@ -156,7 +156,7 @@ class Service:
         seconds = self.bounds.query_seconds
         if groups or not self.turns.is_kept(query.user):
             seconds += min(FIRST_AT_MOST * seconds, self.engine.opening)
-        self.turns.note(query.user)
+        self.turns.note(query.person, query.user)
 
         def ends(reply: bytes | Failure, taken: float) -> None:
             if isinstance(reply, Failure):
@@ -168,8 +168,7 @@ class Service:
 
     def _count(self, query: Query, taken: float) -> None:
         """Counts the program's time to the person who took it, whatever came of it."""
-        self.turns.charge(query.person, taken)
-        self.turns.count_time(taken)
+        self.turns.count_time(query.person, taken)
         self.merging.queried(taken)
 
     def _answered(self, query: Query, reply: bytes, taken: float) -> None:

@@ -36,7 +36,8 @@ class Failure:
 class Task(ABC):
     """One thing that the program is asked."""
 
-    seconds: float | None = None  # of the processor; None: only the limit of all tasks holds
+    # Seconds of the processor, for a query; None: only the limit of all tasks holds.
+    seconds: float | None = None
 
     @abstractmethod
     def more(self) -> bytes:

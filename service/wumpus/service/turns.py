@@ -5,8 +5,10 @@ works for her, and of those who wait the one whose clock shows least is next. Wh
 while begins where the one who is being answered began: she pays for nothing that others took, and
 has saved up nothing.
 
-The program keeps which files it may show to the users who asked last. For another user it finds
-that out anew, which is dear; where many users ask, such queries get half of the time.
+A query may be dear: of a person whose last ones were slow, or of whom nothing is known; or of a
+user for whom the program has to find out anew which files it may show, as it keeps that for those
+who asked last alone. Where others ask as well, dear queries get half of the time. So many who are
+new, with slow queries, don't all go before one who asks quick ones.
 """
 
 import collections
@@ -18,6 +20,7 @@ from .clients import Query
 KEPT = 15  # the program keeps which files it may show to so many users who asked last
 PATIENCE = 0.25  # seconds in which users of whom it keeps that go before others
 OF_SERVICE = 0.0002  # seconds that the service itself takes for a query
+QUICK = 0.1  # seconds, which a query takes at most that isn't dear
 CLOCKS = 10_000  # persons whose clocks are kept
 PRUNED = 0.75  # of them, where they are more
 
@@ -29,9 +32,10 @@ class Turns:
         self.clock = clock
         self.queues: dict[int, collections.deque[Query]] = {}
         self.used: dict[int, float] = {}  # the clock of each person, in seconds
+        self.lately: dict[int, float] = {}  # what a query of hers took, of the last ones most
         self.begun = 0.0  # what the clock showed of the last one who was taken
         self.recent: collections.deque[int] = collections.deque(maxlen=KEPT)
-        self.is_dear = False  # the query under way, of a user of whom nothing is kept
+        self.is_dear = False  # the query under way
         self.dear_spent = 0.0  # seconds of the last dear query
         self.cheap_spent = 0.0  # seconds of the queries after it
 
@@ -63,12 +67,16 @@ class Turns:
                 return query
         return None
 
-    def note(self, user: int) -> None:
+    def note(self, person: int, user: int) -> None:
         """A query of this user is given to the program."""
-        self.is_dear = not self.is_kept(user)
-        if not self.is_dear:
+        self.is_dear = not self._is_cheap(person, user)
+        if self.is_kept(user):
             self.recent.remove(user)
         self.recent.append(user)
+
+    def _is_cheap(self, person: int, user: int) -> bool:
+        """Whether a query is most likely quick."""
+        return self.is_kept(user) and self.lately.get(person, QUICK + 1.0) <= QUICK
 
     def is_kept(self, user: int) -> bool:
         """Whether the program may know already which files it may show to this user."""
@@ -86,10 +94,12 @@ class Turns:
         first = min(self.queues, key=self._place)
         query = self.queues[first][0]
         late = self.clock() - query.since > PATIENCE
-        if self.is_kept(query.user) or (late and self.cheap_spent >= self.dear_spent):
+        if self._is_cheap(first, query.user) or (late and self.cheap_spent >= self.dear_spent):
             return first
-        kept = [one for one, queue in self.queues.items() if self.is_kept(queue[0].user)]
-        return min(kept, key=self._place) if kept else first
+        cheap = [
+            one for one, queue in self.queues.items() if self._is_cheap(one, queue[0].user)
+        ]
+        return min(cheap, key=self._place) if cheap else first
 
     def _place(self, person: int) -> tuple[float, float]:
         """The order of persons: by their clocks, and then by when their queries came."""
@@ -101,8 +111,10 @@ class Turns:
         if len(self.used) > CLOCKS:
             self._prune()
 
-    def count_time(self, taken: float) -> None:
-        """Counts the seconds that the query took that was just answered."""
+    def count_time(self, person: int, taken: float) -> None:
+        """The query that was given took so many seconds, whatever came of it."""
+        self.charge(person, taken)
+        self.lately[person] = (self.lately.get(person, taken) + taken) / 2
         if self.is_dear:
             self.dear_spent, self.cheap_spent = taken, 0.0
         else:
@@ -120,3 +132,6 @@ class Turns:
         )[: int(CLOCKS * PRUNED)]
         waiting = {person: self.used[person] for person in self.queues}
         self.used = {person: shown for shown, person in ahead} | waiting
+        self.lately = {
+            person: taken for person, taken in self.lately.items() if person in self.used
+        }
