@@ -22,7 +22,7 @@ from contextlib import suppress
 from dataclasses import dataclass
 from pathlib import Path
 
-from attacks import ATTACKS, CAROL, EVE, SUBUID, Attack, Field
+from attacks import ATTACKS, CAROL, EVE, Attack, Field, take_own_mounts
 from harness import (
     SERVICE,
     STAND_IN,
@@ -175,22 +175,15 @@ class Stage(Served):
         super().__init__(folder, program)
         self.turning: subprocess.Popen[bytes] | None = None
         self.log = open(folder / "log", "wb")
-        self.subuid = folder / "subuid"
-        self.subuid.write_text(SUBUID)
-        told = subprocess.run([str(SERVICE / "wumpusd"), "--help"], capture_output=True).stdout
-        self.knows_stale = b"--stale" in told
 
     def begin(self) -> None:
-        """Starts both. The service has its own `/etc/subuid`."""
+        """Starts both."""
         words = [
             str(SERVICE / "wumpusd"), "--folder", str(self.store), "--sockets", str(self.sockets),
             "--program", self.program,
         ]  # fmt: skip
-        words += ["--stale", str(STALE)] if self.knows_stale else []
-        script = f'mount --bind "{self.subuid}" /etc/subuid; exec "$@"'
-        self.process = subprocess.Popen(
-            ["unshare", "--mount", "sh", "-c", script, "sh", *words], stderr=self.log
-        )
+        words += ["--stale", str(STALE)]
+        self.process = subprocess.Popen(words, stderr=self.log)
         wait_for((self.sockets / "control").exists)
         self.look()
 
@@ -367,6 +360,7 @@ def main() -> int:
     score = Score("attack")
     print(f"attack: a turn begins each {PERIOD} s; --stale is {STALE} s", flush=True)
     signal.signal(signal.SIGPIPE, signal.SIG_IGN)
+    take_own_mounts()
     for attack in ATTACKS:
         if given.only not in (None, attack.name):
             continue

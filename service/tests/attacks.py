@@ -9,6 +9,7 @@ import os
 import signal
 import socket
 import stat
+import tempfile
 import time
 from collections.abc import Callable, Iterator
 from contextlib import contextmanager, suppress
@@ -37,6 +38,26 @@ LARGE = 8 << 20  # bytes
 SIBLINGS = 20
 STORE_SIZE = "48m"
 _libc = ctypes.CDLL(None, use_errno=True)
+
+
+def take_own_mounts() -> None:
+    """Has this process, and those that it begins, see an `/etc/subuid` in which eve has numbers.
+
+    Raises `OSError`.
+    """
+    new_mounts, bind, private, all_below = 0x20000, 0x1000, 0x40000, 0x4000
+    _checked(_libc.unshare(new_mounts))
+    _checked(_libc.mount(b"none", b"/", None, private | all_below, None))
+    with tempfile.NamedTemporaryFile("w", suffix=".subuid") as file:
+        file.write(SUBUID)
+        file.flush()
+        _checked(_libc.mount(os.fsencode(file.name), b"/etc/subuid", None, bind, None))
+
+
+def _checked(status: int) -> None:
+    if status != 0:
+        error = ctypes.get_errno()
+        raise OSError(error, os.strerror(error))
 
 
 @dataclass
@@ -93,9 +114,7 @@ class Field:
 
     def mount(self, place: Path, kind: str, words: str) -> None:
         """Mounts a file system; `end` takes it away. Raises `OSError`."""
-        status = _libc.mount(b"wumpus", os.fsencode(place), kind.encode(), 0, words.encode())
-        if status != 0:
-            raise OSError(ctypes.get_errno(), f"{kind} can't be mounted")
+        _checked(_libc.mount(b"wumpus", os.fsencode(place), kind.encode(), 0, words.encode()))
         self.mounts.append(place)
 
     def end(self) -> None:

@@ -21,7 +21,7 @@ class Text:
     @cached_property
     def tokens(self) -> Tokens:
         """Where its tokens stand."""
-        return Tokens(self.read())
+        return Tokens(self.read)
 
 
 @dataclass(frozen=True)

@@ -2,11 +2,13 @@
 
 import re
 from array import array
-from collections.abc import Mapping
+from collections.abc import Callable
+from functools import cached_property
 
 RUN = re.compile(rb"[0-9A-Za-z\x80-\xff]+")
 WORD_MAX = 64
 SNIPPET_MAX = 80
+LINES_AT_ONCE = 10_000
 FILE, FILE_END, LINE, LINE_END = b"<file>", b"</file>", b"<line>", b"</line>"
 TAGS = frozenset((FILE, FILE_END, LINE, LINE_END))
 
@@ -34,43 +36,55 @@ def lines_of(text: bytes) -> list[bytes]:
     return lines
 
 
-class _ByRun(dict[bytes, "array[int]"]):
-    """The places of the word of each run, and by words in `words`."""
-
-    def __init__(self) -> None:
-        self.words: dict[bytes, array[int]] = {}
-
-    def __missing__(self, run: bytes) -> "array[int]":
-        places = self[run] = self.words.setdefault(word_of(run), array("I"))
-        return places
-
-
 class Tokens:
-    """Where each token of a text stands, counted from 0 at its `<file>`."""
+    """Where each token of a text stands, counted from 0 at its `<file>`.
 
-    def __init__(self, text: bytes) -> None:
-        runs = _ByRun()
+    Which words there are is found at once, and where they stand when that is asked of one of them.
+    """
+
+    def __init__(self, read: Callable[[], bytes]) -> None:
+        self.read = read
+        lines = lines_of(read())
+        runs: set[bytes] = set()
+        count = 0
+        for at in range(0, len(lines), LINES_AT_ONCE):
+            found = RUN.findall(b"\n".join(lines[at : at + LINES_AT_ONCE]))
+            runs.update(found)
+            count += len(found)
+        self.words = {word_of(run) for run in runs}
+        self.count = count + 2 * len(lines) + 2
+
+    @cached_property
+    def _all(self) -> dict[bytes, "array[int]"]:
+        """The places of each word, and of the tags of lines."""
         begins, ends = array("I"), array("I")
+        found = {LINE: begins, LINE_END: ends}
+        by_run: dict[bytes, array[int]] = {}
         place = 1
-        for line in lines_of(text):
+        for line in lines_of(self.read()):
             begins.append(place)
             for run in RUN.findall(line):
                 place += 1
-                runs[run].append(place)
+                if run not in by_run:
+                    by_run[run] = found.setdefault(word_of(run), array("I"))
+                by_run[run].append(place)
             ends.append(place + 1)
             place += 2
-        self.words: Mapping[bytes, array[int]] = runs.words
-        self.tags = {FILE: array("I", [0]), LINE: begins, LINE_END: ends}
-        self.tags[FILE_END] = array("I", [place])
-        self.count = place + 1
+        return found
 
     def places(self, token: bytes) -> "array[int]":
         """Where a word, or a tag, stands."""
-        return self.tags.get(token) or self.words.get(token) or array("I")
+        if token == FILE:
+            return array("I", [0])
+        if token == FILE_END:
+            return array("I", [self.count - 1])
+        if token in self.words or token in TAGS:
+            return self._all[token]
+        return array("I")
 
     def line_of(self, first: int, last: int) -> int:
         """The number of the first line that shares a token with an extent; 0 where none does."""
-        pairs = zip(self.tags[LINE], self.tags[LINE_END], strict=True)
+        pairs = zip(self._all[LINE], self._all[LINE_END], strict=True)
         for number, (begin, end) in enumerate(pairs, 1):
             if first <= end and begin <= last:
                 return number
