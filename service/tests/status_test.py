@@ -3,6 +3,7 @@
 import json
 import os
 import re
+import signal
 import subprocess
 import sys
 import time
@@ -10,11 +11,13 @@ from collections.abc import Callable
 from pathlib import Path
 from typing import Any
 
-from harness import SERVICE, Score, folder_of_own, options
+from harness import SERVICE, Score, folder_of_own, needs_program, options
 from kernel import User, become
+from service_test import Served, wait_for
 
 NAME = "evil\x1b[31m\n\udcff"
 WELL, ATTENTION, TROUBLE = 0, 1, 2
+STALE = 4  # seconds
 
 
 def of_mirror(now: float) -> dict[str, Any]:
@@ -79,7 +82,7 @@ def texts(place: Place, score: Score) -> None:
     status, out, told = place.run()
     score.check(status == WELL and not told, f"all is well: {status} {told!r}")
     for due in (
-        "30 s old", "started 2 times, 123.0 MB", "ended: the program ended with status 4",
+        "30 s old", "starts: 2; 123.0 MB", "ended: the program ended with status 4",
         "77 answered", "2 tooslow", "5 connections, 1 queries wait", "9 fed, 1 failed",
         "2.5 s, 102300 names", "3 files, 4.5 MB", "4000000001: 7, 2.0 kB",
         "40 budget-names, 2 torn",
@@ -222,9 +225,43 @@ def many(place: Place, score: Score) -> None:
     score.check("/p29:" in out and "4000000000: 0" in out and "more" not in out, f"--all: {out!r}")
 
 
+def beside_service(folder: Path, program: str, score: Score) -> None:
+    """What a service and its mirror tell, and that a mirror which is stopped is told of."""
+    folder.mkdir()
+    served = Served(folder, program)
+    (served.tree / "open").write_text("apple\n")
+    (served.tree / "link").symlink_to("open")
+    served.start("--stale", f"{STALE}")
+    words = ["--served", "--every", "1", "--quiet", "--folder", str(served.store)]
+    words += ["--sockets", str(served.sockets), str(served.tree)]
+    mirror = subprocess.Popen([str(SERVICE / "wumpus-mirror"), *words])
+    command = [str(SERVICE / "wumpus-status"), "--folder", str(served.store)]
+
+    def told() -> tuple[int, str]:
+        ran = subprocess.run(command, capture_output=True, text=True)
+        return ran.returncode, ran.stdout
+
+    try:
+        wait_for(lambda: told()[0] == WELL, 20)
+        status, out = told()
+        score.check(status == WELL and "starts: 1" in out, f"a service and a mirror: {out}")
+        mirror.send_signal(signal.SIGSTOP)
+        wait_for(lambda: told()[0] == ATTENTION, STALE + 10)
+        status, out = told()
+        score.check(status == ATTENTION and "(stale)" in out, f"a mirror that is stopped: {out}")
+        mirror.send_signal(signal.SIGCONT)
+        wait_for(lambda: told()[0] == WELL, 20)
+        score.check(told()[0] == WELL, "one that goes on")
+    finally:
+        mirror.kill()
+        mirror.wait()
+        served.end(signal.SIGTERM)
+
+
 def main() -> int:
     """Runs the test."""
-    options(__doc__ or "").parse_args()
+    given = options(__doc__ or "").parse_args()
+    needs_program("status", given.program)
     score = Score("status")
     with folder_of_own() as name:
         place = Place(Path(name))
@@ -234,6 +271,7 @@ def main() -> int:
             place.well()
             status, out, told = place.run(user=User(1001, (1001,)))
             score.check(status == TROUBLE and not out and "root" in told, f"as a user: {told!r}")
+        beside_service(Path(name) / "served", given.program, score)
     return score.end()
 
 

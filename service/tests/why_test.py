@@ -182,7 +182,7 @@ def told_by_files(place: Place, score: Score) -> None:
     write(tree / "budget", 0o644)
     cases: tuple[tuple[str, dict[str, object], dict[str, object], str], ...] = (
         ("young", {}, {}, "newer than the last walk"),
-        ("budget", {"shut": shut}, {}, "it is shut (budget-names)"),
+        ("budget", {"shut": shut}, {}, "it is shut: its owner has too many names"),
         ("left/file", {"left_out": left_out}, {}, "its owner asks for it"),
         ("open", {}, {"stale": True}, "nobody is answered: the rights"),
         ("open", {}, {"ready": False}, "nobody is answered yet"),

@@ -54,7 +54,7 @@ def counts(told: dict[str, int]) -> str:
 def _of_service(service: ServiceStatus) -> Iterator[str]:
     age = "none was fed" if service.fed_age is None else f"{service.fed_age:.0f} s old"
     yield f"service    since {moment(service.started)}; rights: {age}"
-    yield f"  program  started {service.starts} times, {size(service.memory)}"
+    yield f"  program  starts: {service.starts}; {size(service.memory)}"
     yield from (f"           ended: {plain(one)}" for one in service.why)
     yield f"  queries  {service.answered} answered; refused: {counts(service.refused)}"
     yield f"  clients  {service.connections} connections, {service.waiting} queries wait"

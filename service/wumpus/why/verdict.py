@@ -7,6 +7,7 @@ from dataclasses import dataclass
 
 from ..mirror.access import Access
 from ..mirror.nodes import Node, Tree
+from ..mirror.reasons import Reason
 from ..status.files import Folders, MirrorStatus, ServiceStatus, read_mirror, read_service
 from .kernel import Kind, Step, opens, steps_to
 from .program import Known, is_open, nodes_to, paths_of, read_tree
@@ -141,9 +142,9 @@ class _Reasons:
         who = grant(one.node.rights, self.user).who.value
         if step is None or step.rights is None or step.mirrored is None:
             return "the program has it so; the kernel has it no more, or otherwise"
-        word = self._shut_word(one, step)
+        word = self._shut(one, step)
         if word:
-            return f"it is shut ({word}), see wumpus-status(8)"
+            return word
         mine, hidden = grant(step.rights, self.user), grant(step.mirrored, self.user)
         bit = SEARCH if one.node.is_directory else READ
         if not mine.gives(bit):
@@ -152,16 +153,16 @@ class _Reasons:
             return "it hides its names from her: she may search it, and not list it (--unlisted)"
         return f"what it was changed to comes with a turn of the mirror; she was {who}"
 
-    def _shut_word(self, one: Known, step: Step) -> str:
-        """The word with which a node is shut; empty where it isn't."""
+    def _shut(self, one: Known, step: Step) -> str:
+        """Why a node is shut; empty where it isn't."""
         mirror, path = self.told.mirror, os.fsdecode(one.path)
         for shut in mirror.shut if mirror is not None else []:
             if shut.path == path:
-                return shut.why
+                return _sentence(shut.why)
         is_shut = one.node.rights.mode == 0 and step.rights is not None and step.rights.mode != 0
         if not is_shut:
             return ""
-        return "pending" if _waits(one.node) else "by the mirror"
+        return Reason.PENDING.sentence if _waits(one.node) else "the mirror has it shut"
 
     def _unknown(self, path: bytes, step: Step | None) -> str:
         """Why the program doesn't know a path, whose directory it knows."""
@@ -186,7 +187,7 @@ class _Reasons:
                 yield f"it is left out: {one.path}: {one.why}"
         for shut in mirror.shut if mirror is not None else []:
             if name == shut.path:
-                yield f"it is shut ({shut.why}), see wumpus-status(8)"
+                yield _sentence(shut.why)
         yield from self._unwanted(path)
         walk = None if mirror is None else mirror.walk
         if walk is not None and step is not None and step.changed / 1e9 > walk.began:
@@ -211,6 +212,12 @@ class _Reasons:
         node, step = self.known[-1].node, self.steps[-1]
         if step.kind is Kind.FILE and step.size and not node.digest:
             yield "no word of it is found: it is over 16 MiB, or it has bytes that no text has"
+
+
+def _sentence(word: str) -> str:
+    """The reason of a word in the mirror's status, which another version may have written."""
+    known = {reason.value: reason.sentence for reason in Reason}
+    return known.get(word, f"it is shut ({word})")
 
 
 def _is_below(path: bytes, folder: bytes) -> bool:
