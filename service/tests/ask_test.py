@@ -9,7 +9,8 @@ import os
 import random
 import re
 import sys
-from collections.abc import Iterator
+import tempfile
+from collections.abc import Callable, Iterator
 from contextlib import AbstractContextManager
 from dataclasses import dataclass, replace
 from pathlib import Path
@@ -515,6 +516,101 @@ def fuzz(score: Score, program: str, seed: int, queries: int) -> None:
     )
 
 
+# ---- more files than a reply shows
+
+ALIKE, FILES = 10_050, 12_000  # files before the first longer one, and all
+LOST = 329  # of the files of one length those that no reply shows
+
+
+class Crowd:
+    """Many small files: all have `common base`, and some have other words."""
+
+    def __init__(self, folder: Path, program: str) -> None:
+        self.top = os.fsencode(folder / "crowd")
+        (folder / "many").mkdir()
+        self.asking = Direct(program, folder / "many")
+        self.known: list[Known] = []
+        above = 1
+        for number, name in enumerate(self.top.split(b"/")[1:], 2):
+            self.asking.feed(b"mkdir", number, above, name, 0, 0, b"755")
+            above = number
+        for number in range(10):
+            self.asking.feed(b"mkdir", 20 + number, above, b"d%d" % number, 0, 0, b"755")
+        with tempfile.TemporaryFile() as batch:
+            for number in range(FILES):
+                batch.write(self._file(number))
+            batch.seek(0)
+            self.asking.talk.feed(batch, 2 * FILES)
+        self.known.sort(key=lambda file: file.paths)
+
+    def _file(self, number: int) -> bytes:
+        words = [b"common", b"base"] + [b"even" if number % 2 == 0 else b"odd"]
+        words += [b"third" if number % 3 == 0 else b"rest"]
+        words += [b"even"] * (number % 7 if number >= ALIKE else 0)
+        text = b" ".join(words) + b"\n"
+        name = b"f%d.%b" % (number, b"md" if number % 5 else b"txt")
+        self.known.append(Known((b"%b/d%d/%b" % (self.top, number % 10, name),), text))
+        made = spell(b"create", 100 + number, 20 + number % 10, name, USER, USER, b"600")
+        return made + spell(b"text", 100 + number, len(text)) + text + b"\n"
+
+
+# A query, of which files it holds, and how many of them at most aren't looked at.
+CROWDED: tuple[tuple[bytes, Callable[[int], bool], int], ...] = (
+    (b"common even", lambda number: has_even(number), 0),
+    (b"even -third", lambda number: has_even(number) and number % 3 != 0, 0),
+    (b"common -third -odd", lambda number: number % 6 in (2, 4), 0),
+    (b"third OR -even", lambda number: number % 3 == 0 or not has_even(number), 0),
+    (b"even ext:txt", lambda number: has_even(number) and number % 5 == 0, 0),
+    (b"common in:CROWD/d3 ext:md", lambda number: number % 10 == 3 and number % 5 != 0, LOST),
+    (b'"common base"', lambda number: True, LOST),
+    (b"common NEAR/3 base ext:md", lambda number: number % 5 != 0, LOST),
+    (b"-nothing", lambda number: True, 0),
+    (b"ext:md", lambda number: number % 5 != 0, 0),
+)
+
+
+def has_even(number: int) -> bool:
+    """Whether a file of the crowd has that word."""
+    return number % 2 == 0 or (number >= ALIKE and number % 7 > 0)
+
+
+def crowds(score: Score, program: str) -> None:
+    """Sets, numbers and the first files of more than a reply shows; what isn't whole is told."""
+    with quick_folder() as name:
+        crowd = Crowd(Path(name), program)
+        for typed, holds_for, lost in CROWDED:
+            _crowded(score, crowd, typed.replace(b"CROWD", crowd.top), holds_for, lost)
+        crowd.asking.close()
+
+
+def _crowded(
+    score: Score, crowd: Crowd, typed: bytes, holds_for: Callable[[int], bool], lost: int
+) -> None:
+    question = language.read(typed)
+    some = find_forms(question.texts, Marks.COUNTED, crowd.asking.terms) if question.texts else None
+    condition = None
+    if question.paths is not None:
+        condition = paths.condition_of(question.paths, paths.Standing(b"/"))
+    search_ = Search(crowd.asking, Meant(question, some or forms.Forms(), condition))
+    told = search_.files(10)
+    due = {file.paths[0] for file in crowd.known if holds_for(_number_of(file.paths[0]))}
+    words = set() if question.texts is None else {
+        word.text for word in wanted_words(question.texts)}  # fmt: skip
+    ranked = scores(crowd.known, words)
+    order = sorted(due, key=lambda path: (path not in ranked, -ranked.get(path, 0), path))
+    first = [file.path for file in told.first]
+    score.check(first == order[:10], f"{typed!r}: {first} in place of {order[:10]}")
+    number = told.total.number
+    is_right = number == len(due) if told.total.is_exact else len(due) - lost <= number <= len(due)
+    score.check(is_right, f"{typed!r}: {told.total} in place of {len(due)}")
+    is_told = bool(search_.notes)
+    score.check(is_told == (lost > 0), f"{typed!r}: {search_.notes}")
+
+
+def _number_of(path: bytes) -> int:
+    return int(path.rpartition(b"/f")[2].partition(b".")[0])
+
+
 # ---- wrong translations
 
 _REAL_ROW = translation.Translation._row
@@ -630,6 +726,7 @@ def main() -> int:
     needs_program("ask", given.program)
     score = Score("ask")
     fuzz(score, given.program, given.seed, given.queries)
+    crowds(score, given.program)
     mutants(score, given.program, given.seed, given.queries)
     return score.end()
 

@@ -5,10 +5,15 @@ Needs no program and no service.
 
 import io
 import os
+import socket
+import subprocess
 import sys
-from collections.abc import Sequence
+import tempfile
+import threading
+from collections.abc import Callable, Sequence
+from pathlib import Path
 
-from harness import Score, options
+from harness import SERVICE, Score, options
 
 from wumpus.ask import language  # isort: skip
 from wumpus.ask.asking import Trouble  # isort: skip
@@ -541,13 +546,105 @@ def explanations(score: Score) -> None:
     score.check(labels == [b"a", b'"b c" OR d', b"e"], f"the parts: {labels}")
 
 
+ENDS = b"(the connection ends)"
+
+
+class Fake:
+    """A service whose answers are made up, and which notes what it is asked."""
+
+    def __init__(self, folder: Path, answer: Callable[[bytes], bytes]) -> None:
+        self.answer = answer
+        self.asked: list[bytes] = []
+        self.listening = socket.socket(socket.AF_UNIX)
+        self.listening.bind(str(folder / "ask"))
+        self.listening.listen()
+        self.thread = threading.Thread(target=self._serve, daemon=True)
+        self.thread.start()
+
+    def _serve(self) -> None:
+        while True:
+            try:
+                connection, _ = self.listening.accept()
+            except OSError:
+                return
+            with connection, connection.makefile("rwb") as both:
+                for line in both:
+                    self.asked.append(line.rstrip(b"\n"))
+                    answer = self.answer(self.asked[-1])
+                    both.write(answer.removesuffix(ENDS))
+                    both.flush()
+                    if answer.endswith(ENDS):
+                        break
+
+    def close(self) -> None:
+        """Ends it."""
+        self.listening.shutdown(socket.SHUT_RDWR)
+        self.listening.close()
+        self.thread.join(5)
+
+
+def told_by(answer: Callable[[bytes], bytes], *words: str) -> tuple[int, str, str, list[bytes]]:
+    """What `wumpus-ask` writes over a service that answers so, and what that was asked."""
+    with tempfile.TemporaryDirectory() as name:
+        fake = Fake(Path(name), answer)
+        command = [str(SERVICE / "wumpus-ask"), "--sockets", name, *words]
+        ran = subprocess.run(command, capture_output=True, text=True, timeout=60)
+        fake.close()
+        return ran.returncode, ran.stdout, ran.stderr, fake.asked
+
+
+def services(score: Score) -> None:
+    """What is done where the service refuses, has too much to tell, or goes away."""
+    empty = b"terms\t0\t0\n"
+
+    def refusing(word: bytes) -> Callable[[bytes], bytes]:
+        def answer(line: bytes) -> bytes:
+            return empty if line.startswith(b"terms") else b"refused\t" + word + b"\n"
+
+        return answer
+
+    for word, due in ((b"tooslow", "too long"), (b"stale", "hasn't looked"), (b"odd", "odd")):
+        status, out, error, asked = told_by(refusing(word), "budget", "lunch")
+        others = [line for line in asked if not line.startswith(b"terms")]
+        score.check(status == 2 and not out and due in error, f"{word!r}: {error}")
+        score.check(len(others) == 1, f"after {word!r} nothing more is asked: {others}")
+
+    def large(line: bytes) -> bytes:
+        if line.startswith(b"terms"):
+            return empty
+        most = int(line.split(b"\t")[1])
+        if most > 3000:
+            return b"refused\ttoolargereply\n"
+        return b"rank\t3\t3\n" + b"".join(b"7\t/%d\t0\t9\n" % place for place in range(3))
+
+    status, out, error, asked = told_by(large, "-l", "budget")
+    most = [line.split(b"\t")[1] for line in asked if line.startswith(b"rank")]
+    score.check((status, out) == (0, "/0\n/1\n/2\n"), f"a large reply: {out} {error}")
+    score.check(most == [b"10000", b"2500"], f"a quarter as many: {most}")
+
+    def more(line: bytes) -> bytes:
+        return empty if line.startswith(b"terms") else b"rank\t20000\t1\n7\t/a\t0\t9\n"
+
+    status, out, error, _ = told_by(more, "-l", "budget")
+    score.check("1 of 20000 files are shown" in error and status == 0, f"in a pipe: {error}")
+    status, out, error, _ = told_by(more, "-l", "-n1", "budget")
+    score.check(not error and status == 0, f"as many as were asked for: {error}")
+    for answer in (b"", b"rank\t1\t9\n", b"rank\n", b"who\n", b"rank\t1\t1\n7\t/a"):
+
+        def ending(line: bytes, answer: bytes = answer) -> bytes:
+            return empty if line.startswith(b"terms") else answer + ENDS
+
+        status, _, error, _ = told_by(ending, "budget")
+        score.check(status == 2 and "the service" in error, f"{answer!r}: {error}")
+
+
 def main() -> int:
     """Runs the test."""
     options(__doc__ or "").parse_args()
     score = Score("language")
     for part in (
         expressions, messages, limits, words, conditions, arguments, lines, output, slips,
-        explanations,
+        explanations, services,
     ):  # fmt: skip
         part(score)
     return score.end()

@@ -374,6 +374,28 @@ def files(page: Page, token: str, score: Score) -> None:
     score.check(isinstance(answer, dict) and answer["total"] == 0, "when it is whole")
 
 
+ASKED = ("budget", "lnuch", "lunch secret", "list", "ext:md", "secre", "-list", "item -budget")
+
+
+def leaks(served: Served, page: Page, token: str, score: Score) -> None:
+    """Nothing that she is told changes by a byte where another's private files change."""
+    private = served.tree / "private"
+    private.mkdir(mode=0o700)
+    told = []
+    for text in ("secret budget lunch\n", "secre budgets lnuch list item\n" * 30):
+        for number in range(len(text) % 9 + 1):
+            (private / f"budget{number}.md").write_text(text)
+        score.check(mirror_until_done(served), "a turn")
+        answers = []
+        for query in ASKED:
+            body = json.dumps({"query": query, "number": 5, "typing": True}).encode()
+            asked = request(page, "POST", "/ask", body, more=(("Wumpus-Token", token),))
+            answers.append(answered(page, asked, ANN).partition(b"\r\n\r\n")[2])
+        told.append(answers)
+    for query, first, second in zip(ASKED, *told):
+        score.check(first == second != b"", f"{query}: {first!r} and then {second!r}")
+
+
 def sockets(served: Served, score: Score) -> None:
     """A socket in a folder of the user's own answers her alone."""
     run = served.folder / "run"
@@ -496,10 +518,11 @@ def ends(served: Served, score: Score) -> None:
     serving.server_close()
     score.check(0.2 < spent < 5, f"it ended after {spent:.1f} s")
     question = {"query": "budget", "number": 9}
-    score.check(answers.ask(question)["total"] == 2, "user 0 is told of both")
+    found = answers.ask(question)["total"]
+    score.check(found > 1, "user 0 is told of others' files")
     assert answers.asking is not None
     answers.asking.socket.shutdown(socket.SHUT_RDWR)
-    score.check(answers.ask(question)["total"] == 2, "on a new connection")
+    score.check(answers.ask(question)["total"] == found, "on a new connection")
     told: list[dict[str, object]] = []
     with answers.turn:
         waiting = [
@@ -802,6 +825,7 @@ def main() -> int:
             replies(page, token, score)
             ports(page, score)
             crowds(page, token, score)
+            leaks(served, page, token, score)
             score.check(page.end() == 0, "a signal ends it")
             part: Callable[[Served, Score], None]
             for part in (sockets, walls, ends):
