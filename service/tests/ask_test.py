@@ -28,8 +28,9 @@ from wumpus.ask import (  # isort: skip
 from wumpus.ask.asking import Asking, Trouble  # isort: skip
 from wumpus.ask.expression import Joined, Operator, Scope, TooLong, Window  # isort: skip
 from wumpus.ask.forms import Marks, find_forms  # isort: skip
-from wumpus.ask.language import (  # isort: skip
-    And, Fault, Filter, Line, Near, Not, Or, Phrase, Prefix, Question, Row, Span, Subject, Word,
+from wumpus.ask.tree import (  # isort: skip
+    And, Fault, Filter, Line, Near, Not, Or, Phrase, Prefix, Question, Row, Span, Subject, Tree, Unit,
+    Word,
 )  # fmt: skip
 from wumpus.ask.search import Bounds, Meant, Search  # isort: skip
 from wumpus.shared.program import Program, Talk  # isort: skip
@@ -181,7 +182,7 @@ class Written:
     """A query as it is typed, and what it is."""
 
     typed: bytes
-    tree: language.Tree[language.Unit]
+    tree: Tree[Unit]
 
 
 class Writer:
@@ -294,7 +295,7 @@ class Writer:
             units.append(tuple(one.tree for one in sides if isinstance(one.tree, (Row, Phrase))))
         return Written(b" ".join(typed), Near(tuple(units), tuple(gaps), NOWHERE))
 
-    def _filters(self) -> tuple[bytes, language.Tree[Filter]]:
+    def _filters(self) -> tuple[bytes, Tree[Filter]]:
         draw = self.draw
         typed, one = self._filter()
         kind = draw.random()

@@ -22,7 +22,6 @@ from wumpus.ask.expression import Scope, TooLong, operators_of, spell  # isort: 
 from wumpus.ask.forms import (  # isort: skip
     Forms, Listing, Marks, counts_as, find_forms, typed_in,
 )  # fmt: skip
-from wumpus.ask.language import Fault, Filter, Subject  # isort: skip
 from wumpus.ask.matching import Matcher, best  # isort: skip
 from wumpus.ask.options import query_of, read_arguments  # isort: skip
 from wumpus.ask.output import (  # isort: skip
@@ -32,6 +31,7 @@ from wumpus.ask.paths import Standing, condition_of  # isort: skip
 from wumpus.ask.search import Meant  # isort: skip
 from wumpus.ask.suggestions import fronts_of, slips_between  # isort: skip
 from wumpus.ask.translation import Translation  # isort: skip
+from wumpus.ask.tree import And, Fault, Filter, Not, Span, Subject  # isort: skip
 
 # What is typed, the expression over files, and how many operators that has.
 EXPRESSIONS = (
@@ -413,10 +413,10 @@ def conditions(score: Score) -> None:
             told = condition_of(tree, standing)(path.encode())
             score.check(told == due, f"{typed} of {path}: {told}")
     question = language.read(b'budget name:"a b.txt" -ext:md')
-    nowhere = language.Span(0, 0)
+    nowhere = Span(0, 0)
     named = Filter(Subject.NAME, (b"a b.txt",), nowhere)
-    without = language.Not(Filter(Subject.EXTENSION, (b"md",), nowhere))
-    score.check(question.paths == language.And((named, without)), f"{question.paths}")
+    without = Not(Filter(Subject.EXTENSION, (b"md",), nowhere))
+    score.check(question.paths == And((named, without)), f"{question.paths}")
     home = os.path.expanduser(b"~")
     score.check(standing.whole(b"~/x") == home + b"/x", f"{standing.whole(b'~/x')!r}")
 
@@ -541,7 +541,7 @@ def explanations(score: Score) -> None:
     score.check(told == due, f"--explain: {told}")
     question = language.read(b'a ("b c" OR d) -e')
     spans = [span_of(part) for part in question.texts.parts] if isinstance(
-        question.texts, language.And) else []  # fmt: skip
+        question.texts, And) else []  # fmt: skip
     labels = [question.typed[span.start : span.end] for span in spans]
     score.check(labels == [b"a", b'"b c" OR d', b"e"], f"the parts: {labels}")
 

@@ -10,7 +10,7 @@ from dataclasses import dataclass
 from functools import cached_property
 from itertools import product
 
-from wumpus.ask.language import (
+from wumpus.ask.tree import (
     And, Filter, Line, Near, Not, Or, Phrase, Prefix, Row, Subject, Tree, Unit, Word,
 )  # fmt: skip
 

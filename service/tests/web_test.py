@@ -316,9 +316,8 @@ def crowds(page: Page, token: str, score: Score) -> None:
         try:
             become(BOB)
             some = [connected(page) for _ in range(200)]
-            os.write(writing, b".")
+            os.write(writing, b"." if all(some) else b"")
             time.sleep(20)
-            del some
         finally:
             os._exit(0)
     os.read(reading, 1)

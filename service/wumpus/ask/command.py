@@ -16,7 +16,6 @@ from .asking import Asking, Trouble
 from .explain import Why, at_fault, explained, too_long
 from .expression import Scope, TooLong
 from .forms import Forms, Marks, find_forms
-from .language import Fault, Line, Question, Span
 from .options import query_of, read_arguments
 from .output import Around, Format, Layer, Result, Style, Writer, as_json, has_colour
 from .paths import condition_of, missing_folders, standing_here
@@ -25,6 +24,7 @@ from .results import Choice, Share, of_each_file, of_files, of_places
 from .search import Count, Meant, Search
 from .suggestions import completions
 from .terminal import open_in_editor, paged
+from .tree import Fault, Line, Question, Span, text_of
 
 FOUND, NONE, TROUBLE = 0, 1, 2
 FILES_AT_TERMINAL = 10
@@ -142,7 +142,7 @@ def meant_by(question: Question, given: argparse.Namespace, asking: Asking) -> M
         return Meant(question, forms, None)
     standing = standing_here()
     for folder in missing_folders(question.paths, standing):
-        tell(f"there is no directory {language.text_of(folder)}")
+        tell(f"there is no directory {text_of(folder)}")
     return Meant(question, forms, condition_of(question.paths, standing))
 
 
@@ -199,7 +199,7 @@ def write_results(search: Search, wish: Wish) -> int:
             writer.write(result)
             written += sum(1 for _ in result.rows()) if wish.wants_lines else 1
             if result.note and wish.format in (Format.LINES, Format.VIMGREP):
-                tell(f"{language.text_of(result.path)}: {result.note}")
+                tell(f"{text_of(result.path)}: {result.note}")
     tell_of_more(written, total, wish)
     return FOUND if total.number else NONE
 

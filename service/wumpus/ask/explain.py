@@ -6,12 +6,12 @@ from collections.abc import Iterator, Sequence
 from ..shared.progress import plain
 from .expression import Expression, Scope, TooLong, operators_of, spell
 from .forms import typed_in
-from .language import (
-    And, Fault, Line, Near, Not, Or, Phrase, Prefix, Row, Span, Tree, Unit, text_of,
-)  # fmt: skip
 from .search import Meant, Search
 from .suggestions import suggestions
 from .translation import Translation
+from .tree import (
+    And, Fault, Line, Near, Not, Or, Phrase, Prefix, Row, Span, Tree, Unit, text_of,
+)  # fmt: skip
 
 TOLD = 3  # words that no file has
 

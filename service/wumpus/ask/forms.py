@@ -15,9 +15,9 @@ from dataclasses import dataclass, field
 from enum import Enum, auto
 
 from ..shared.words import WORD, word_of
-from .language import (
-    PREFIX_BYTES, And, Fault, Line, Near, Not, Or, Phrase, Prefix, Row, Span, Tree, Unit, Word,
-    text_of, too_short,
+from .language import PREFIX_BYTES, too_short
+from .tree import (
+    And, Fault, Line, Near, Not, Or, Phrase, Prefix, Row, Span, Tree, Unit, Word, text_of,
 )  # fmt: skip
 
 WORDS_MAX = 64  # for which a prefix may stand

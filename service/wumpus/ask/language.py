@@ -7,17 +7,19 @@
     unit   = term | term "*" | '"' text '"' | "(" query ")" | "line:(" query ")" | filter
     filter = ("in:" | "name:" | "ext:" | "path:") (value { "," value } | '"' value '"')
 
-A query is bytes, since names of files and words needn't be UTF-8. What can't be asked is a
-`Fault`, which says where and what to write.
+What can't be asked is a `Fault`, which says where and what to write.
 """
 
 import re
 from collections.abc import Iterator
-from dataclasses import dataclass, field
+from dataclasses import dataclass
 from enum import Enum, auto
-from typing import Generic, TypeVar, Union
 
 from ..shared.words import WORD
+from .tree import (
+    And, Fault, Filter, Leaf, Line, Mixed, Near, Not, Or, Phrase, Prefix, Question, Row, Side, Span,
+    Subject, Tree, Unit, Word, text_of,
+)  # fmt: skip
 
 QUERY_BYTES = 4096
 DEPTH = 32  # parentheses and NOTs in each other
@@ -36,130 +38,6 @@ _STARRED = re.compile(rb"[^*]*?([0-9A-Za-z\x80-\xff]+)\*", re.DOTALL)
 _ALIKE = re.compile(rb"[0-9A-Za-z\x80-\xff]~[0-9.]*$")
 _NEEDS_NO_QUOTES = re.compile(rb"[0-9A-Za-z_./+@%-]+")
 _STAR_IN_QUOTES = re.compile(rb"[0-9A-Za-z\x80-\xff]\*")
-
-Leaf = TypeVar("Leaf")
-
-
-@dataclass(frozen=True)
-class Span:
-    """Some bytes of the query: from `start` to before `end`."""
-
-    start: int
-    end: int
-
-
-class Fault(Exception):
-    """A query that can't be asked: what to write, and which bytes are at fault."""
-
-    def __init__(self, message: str, span: Span) -> None:
-        super().__init__(message)
-        self.message = message
-        self.span = span
-
-
-@dataclass(frozen=True)
-class Word:
-    """A word as it was typed."""
-
-    text: bytes
-    span: Span = field(compare=False)
-
-
-@dataclass(frozen=True)
-class Prefix:
-    """What was typed before a `*`: it stands for the words that begin so."""
-
-    text: bytes
-    span: Span = field(compare=False)
-
-
-@dataclass(frozen=True)
-class Row:
-    """Words side by side on one line."""
-
-    words: tuple[Word | Prefix, ...]
-    span: Span = field(compare=False)
-
-
-@dataclass(frozen=True)
-class Phrase:
-    """Words side by side, perhaps over one line end."""
-
-    words: tuple[Word, ...]
-    span: Span = field(compare=False)
-
-
-Side = Union[Row, Phrase]
-
-
-@dataclass(frozen=True)
-class Near:
-    """One of each of the units, each with its alternatives, in a stretch; a gap for each NEAR."""
-
-    units: tuple[tuple[Side, ...], ...]
-    gaps: tuple[int, ...]
-    span: Span = field(compare=False)
-
-
-@dataclass(frozen=True)
-class Line:
-    """A line for which a query holds."""
-
-    query: "Tree[Unit]"
-    span: Span = field(compare=False)
-
-
-class Subject(Enum):
-    """What of a path a filter looks at."""
-
-    IN = "in"
-    NAME = "name"
-    EXTENSION = "ext"
-    PATH = "path"
-
-
-@dataclass(frozen=True)
-class Filter:
-    """A condition on paths: one of the values fits."""
-
-    subject: Subject
-    values: tuple[bytes, ...]
-    span: Span = field(compare=False)
-
-
-@dataclass(frozen=True)
-class And(Generic[Leaf]):
-    """All of two or more parts."""
-
-    parts: tuple["Tree[Leaf]", ...]
-
-
-@dataclass(frozen=True)
-class Or(Generic[Leaf]):
-    """One of two or more parts."""
-
-    parts: tuple["Tree[Leaf]", ...]
-
-
-@dataclass(frozen=True)
-class Not(Generic[Leaf]):
-    """All but what is in the part."""
-
-    part: "Tree[Leaf]"
-
-
-Unit = Union[Row, Phrase, Near, Line]
-Tree = Union[Leaf, And[Leaf], Or[Leaf], Not[Leaf]]
-Mixed = Union[Unit, Filter]
-
-
-@dataclass(frozen=True)
-class Question:
-    """What is asked: of texts, of paths, or of both."""
-
-    typed: bytes
-    texts: Tree[Unit] | None
-    paths: Tree[Filter] | None
 
 
 class _Kind(Enum):
@@ -190,11 +68,6 @@ _SUBJECTS = {one.value.encode(): one for one in Subject}
 _BESIDE = "in: name: ext: path: stand beside the words, and not in an OR or a - with them"
 _AROUND_NEAR = "NEAR stands between words, phrases, and (this OR that)"
 _NO_STAR = "a * stands at the end of a word, and nothing else stands for letters"
-
-
-def text_of(some: bytes) -> str:
-    """The bytes as text; those that are no UTF-8 as surrogates."""
-    return some.decode("utf-8", "surrogateescape")
 
 
 def quoted(value: bytes) -> bytes | None:

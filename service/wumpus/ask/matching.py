@@ -14,7 +14,7 @@ from typing import NamedTuple
 from ..shared.words import WORD, word_of
 from .expression import Scope
 from .forms import Forms, Typed, typed_in
-from .language import And, Line, Near, Not, Or, Phrase, Row, Tree, Unit
+from .tree import And, Line, Near, Not, Or, Phrase, Row, Tree, Unit
 
 
 class Hit(NamedTuple):

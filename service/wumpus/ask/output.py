@@ -15,8 +15,8 @@ from enum import Enum, auto
 from typing import IO, Any
 
 from ..shared.progress import plain
-from .language import text_of
 from .matching import Shown
+from .tree import text_of
 
 LINE_ROOM = 400  # bytes of a line at a terminal
 BEFORE_MATCH = 100  # of these before the first match

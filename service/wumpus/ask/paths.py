@@ -12,7 +12,7 @@ from collections.abc import Callable, Iterable, Sequence
 from dataclasses import dataclass
 
 from .asking import Trouble
-from .language import And, Filter, Not, Subject, Tree, text_of
+from .tree import And, Filter, Not, Subject, Tree, text_of
 
 Condition = Callable[[bytes], bool]
 

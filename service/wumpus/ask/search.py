@@ -18,9 +18,9 @@ from ..shared.words import WORDS_OF_RANKING, word_of
 from .asking import Asking, Refused, Reply
 from .expression import WINDOW_MAX, Expression, Joined, Operator, Scope, TooLong, Window, spell
 from .forms import Forms, Typed, typed_in
-from .language import And, Line, Not, Or, Phrase, Question, Row, Tree, Unit
 from .paths import Condition, once_each, passing
 from .translation import Translation
+from .tree import And, Line, Not, Or, Phrase, Question, Row, Tree, Unit
 
 TOO_LARGE = b"toolargereply"
 

@@ -9,7 +9,8 @@ from collections.abc import Iterator
 
 from ..shared.words import WORD, word_of
 from .asking import Asking
-from .language import PREFIX_BYTES, text_of
+from .language import PREFIX_BYTES
+from .tree import text_of
 
 SECONDS = 0.5  # in which words are looked for
 SUGGESTED = 3

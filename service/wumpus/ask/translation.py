@@ -17,7 +17,7 @@ from .expression import (
     OPERATORS_MAX, WINDOW_MAX, Expression, Joined, Operator, Quoted, Scope, TooLong, Window, joined,
 )  # fmt: skip
 from .forms import Forms, Typed
-from .language import And, Line, Near, Not, Or, Phrase, Row, Side, Tree, Unit
+from .tree import And, Line, Near, Not, Or, Phrase, Row, Side, Tree, Unit
 
 LINE_START = Quoted(b"<line>")
 LINE_END_TOKENS = 2  # the tag that ends a line, and the one that begins the next

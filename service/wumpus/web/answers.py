@@ -20,11 +20,12 @@ from ..ask.content import lines_of_file
 from ..ask.explain import Why, too_long
 from ..ask.expression import Scope, TooLong
 from ..ask.forms import Forms, Marks, find_forms
-from ..ask.language import PREFIX_BYTES, Fault, Question
+from ..ask.language import PREFIX_BYTES
 from ..ask.matching import Matcher, Shown, best
 from ..ask.output import Layer, Style, cut, shown, text_shown
 from ..ask.paths import condition_of, standing_here
 from ..ask.search import File, Meant, Search
+from ..ask.tree import Fault, Or, Question, Span, text_of
 from ..shared.script import SHOWN_MAX
 from .guard import Refusal
 
@@ -135,7 +136,7 @@ class Answers:
         try:
             files = search.files(SHOWN_MAX)
         except TooLong as fault:
-            raise Fault(too_long(meant, fault), language.Span(0, len(question.typed))) from fault
+            raise Fault(too_long(meant, fault), Span(0, len(question.typed))) from fault
         self.last = meant
         are_all = files.total.is_exact and files.total.number == len(files.first)
         counted = files.first if are_all else []
@@ -253,7 +254,7 @@ def _group(label: str, count: int, subject: bytes, value: bytes, question: Quest
 def narrowed_by(filter_: bytes, question: Question) -> bytes:
     """The query as it was typed, with a filter beside it."""
     sides = (question.texts, question.paths)
-    is_either = None in sides and any(isinstance(one, language.Or) for one in sides)
+    is_either = None in sides and any(isinstance(one, Or) for one in sides)
     typed = b"(%b)" % question.typed if is_either else question.typed
     return typed.rstrip() + b" " + filter_
 
@@ -272,7 +273,7 @@ def _bytes_of(value: object) -> bytes:
 
 
 def _text(some: bytes) -> str:
-    return language.text_of(some)
+    return text_of(some)
 
 
 def _name(path: bytes) -> str:
