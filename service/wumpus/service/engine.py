@@ -17,6 +17,7 @@ LONGEST_PAUSE = 30.0  # seconds before the program is started again
 SHORTEST_PAUSE = 0.05
 DOUBLINGS = 12
 BY_CLOCK = 2.0  # so many times its seconds of the processor may a task take by the clock
+OF_CLOCK = 8.0  # so many seconds of the clock count as one of the processor
 END_SECONDS = 600.0
 KEPT_REASONS = 5
 STARTS_TO_OPEN = 5  # after so many that fail a mirror is told
@@ -87,7 +88,7 @@ class Engine:
         Who asks such queries waits herself, and the others needn't.
         """
         self._note(failure.why)
-        taken = time.monotonic() - self.since
+        taken = self._taken()
         self._end_program()
         task, self.task = self.task, None
         if failure.cause is Cause.SLOW or (task is not None and task.seconds is not None):
@@ -203,7 +204,16 @@ class Engine:
         if program.waiting or task.more():
             raise BadReply("there are more lines than replies")
         self.task = None
-        task.finish(time.monotonic() - self.since)
+        task.finish(self._taken())
+
+    def _taken(self) -> float:
+        """Seconds that the task took: of the processor, or a part of those of the clock.
+
+        By the clock alone other work on the machine would make each query a slow one.
+        """
+        by_clock = time.monotonic() - self.since
+        spent = 0.0 if self.program is None else self.program.spent() - self.spent
+        return max(spent, by_clock / OF_CLOCK)
 
     def _failed(self, error: Ended | BadReply) -> None:
         if isinstance(error, BadReply):

@@ -5,24 +5,31 @@ works for her, and of those who wait the one whose clock shows least is next. Wh
 while begins where the one who is being answered began: she pays for nothing that others took, and
 has saved up nothing.
 
-A query may be dear: of a person whose last ones were slow, or of whom nothing is known; or of a
-user for whom the program has to find out anew which files it may show, as it keeps that for those
-who asked last alone. Where others ask as well, dear queries get half of the time. So many who are
-new, with slow queries, don't all go before one who asks quick ones.
+Some queries are likely dear. Where cheaper ones wait, these get as much time after a dear one as
+that took. So many who are new, with slow queries, don't all go before one who asks quick ones.
 """
 
 import collections
 import time
 from collections.abc import Callable
+from enum import IntEnum
 
 from .clients import Query
 
 KEPT = 15  # the program keeps which files it may show to so many users who asked last
-PATIENCE = 0.25  # seconds in which users of whom it keeps that go before others
+PATIENCE = 0.25  # seconds in which cheaper queries go before others
 OF_SERVICE = 0.0002  # seconds that the service itself takes for a query
-QUICK = 0.1  # seconds, which a query takes at most that isn't dear
+QUICK = 0.1  # seconds of the processor, which a query takes at most that isn't dear
 CLOCKS = 10_000  # persons whose clocks are kept
 PRUNED = 0.75  # of them, where they are more
+
+
+class Cost(IntEnum):
+    """What a query is likely to take."""
+
+    QUICK = 0
+    FINDING = 1  # quick, but the program doesn't keep which files it may show to its user
+    SLOW = 2  # of a person whose last ones were, or of whom nothing is known
 
 
 class Turns:
@@ -69,14 +76,16 @@ class Turns:
 
     def note(self, person: int, user: int) -> None:
         """A query of this user is given to the program."""
-        self.is_dear = not self._is_cheap(person, user)
+        self.is_dear = self._cost(person, user) is not Cost.QUICK
         if self.is_kept(user):
             self.recent.remove(user)
         self.recent.append(user)
 
-    def _is_cheap(self, person: int, user: int) -> bool:
-        """Whether a query is most likely quick."""
-        return self.is_kept(user) and self.lately.get(person, QUICK + 1.0) <= QUICK
+    def _cost(self, person: int, user: int) -> Cost:
+        """What a query is likely to take."""
+        if self.lately.get(person, QUICK + 1.0) > QUICK:
+            return Cost.SLOW
+        return Cost.QUICK if self.is_kept(user) else Cost.FINDING
 
     def is_kept(self, user: int) -> bool:
         """Whether the program may know already which files it may show to this user."""
@@ -87,19 +96,19 @@ class Turns:
         self.recent.clear()
 
     def _whose_turn(self) -> int:
-        """The person who is answered next: of those who are dear, the first one unless it may wait.
+        """The person who is answered next: the first one, unless hers is dear and may wait.
 
         Between two dear queries the others get as much time as the first of them took.
         """
         first = min(self.queues, key=self._place)
-        query = self.queues[first][0]
-        late = self.clock() - query.since > PATIENCE
-        if self._is_cheap(first, query.user) or (late and self.cheap_spent >= self.dear_spent):
+        late = self.clock() - self.queues[first][0].since > PATIENCE
+        if late and self.cheap_spent >= self.dear_spent:
             return first
-        cheap = [
-            one for one, queue in self.queues.items() if self._is_cheap(one, queue[0].user)
-        ]
-        return min(cheap, key=self._place) if cheap else first
+        return min(self.queues, key=self._place_by_cost)
+
+    def _place_by_cost(self, person: int) -> tuple[Cost, tuple[float, float]]:
+        """The order of persons where dear queries may wait."""
+        return self._cost(person, self.queues[person][0].user), self._place(person)
 
     def _place(self, person: int) -> tuple[float, float]:
         """The order of persons: by their clocks, and then by when their queries came."""
