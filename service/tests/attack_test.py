@@ -353,7 +353,7 @@ def main() -> int:
     parser = options(__doc__ or "")
     parser.add_argument("--only", metavar="NAME", choices=[one.name for one in ATTACKS])
     parser.add_argument("--log", action="store_true", help="show what service and mirror told")
-    parser.add_argument("--seconds", type=float, default=16.0, help="of each attack")
+    parser.add_argument("--seconds", type=float, default=8.0, help="of each attack")
     given = parser.parse_args()
     needs_root("attack")
     needs_program("attack", given.program)

@@ -316,9 +316,9 @@ def touch_all(folder: Path) -> None:
     """Changes a directory, and the files in it, all the while."""
     while True:
         folder.chmod(0o755)
-        for one in range(20):
+        for one in range(10):
             write(folder / f"{one}", b"apple\n")
-            time.sleep(0.001)
+            time.sleep(0.004)
 
 
 def shared_directory(field: Field) -> None:

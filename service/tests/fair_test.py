@@ -27,7 +27,7 @@ from service_test import ANN, BOB, CAROL, Served, as_user, ask_here, kill_progra
 from wumpus.service.clients import Client, Query
 from wumpus.service.groups import USERS_AT_MOST, Groups
 from wumpus.service.merging import HELD_AFTER, Merging
-from wumpus.service.persons import Persons
+from wumpus.shared.persons import Persons
 from wumpus.service.tasks import Cause, Failure, Line, Task
 from wumpus.service.turns import Turns
 from wumpus.service.waits import FIRST, FORGIVEN, LONGEST, Waits

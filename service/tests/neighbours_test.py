@@ -1,6 +1,7 @@
 """What one user, or an administrator's slip, may not do to the others."""
 
 import io
+import json
 import os
 import signal
 import socket
@@ -12,6 +13,7 @@ from contextlib import redirect_stderr, suppress
 from pathlib import Path
 from unittest import mock
 
+from attacks import SUBORDINATES, take_own_mounts
 from harness import SERVICE, Score, folder_of_own, needs_program, needs_root, options
 from kernel import User, become
 from mirror_test import Place
@@ -97,6 +99,25 @@ def of_mirror(place: Place, score: Score) -> None:
     status, _, told_of = place.mirror()
     score.check(status == 2 and "no system account" in told_of, f"another's folder: {told_of}")
     os.chown(place.store, 0, 0)
+
+
+def of_subordinates(place: Place, score: Score) -> None:
+    """What two numbers own counts as that of the account whose they are."""
+    crowd = place.tree / "crowd"
+    for user in SUBORDINATES[:2]:
+        home = crowd / f"{user.number}"
+        home.mkdir(parents=True)
+        for number in range(30):
+            (home / f"{number}").write_text("apple\n")
+        for one in (home, *home.iterdir()):
+            os.chown(one, user.number, user.number)
+    words = [str(SERVICE / "wumpus-mirror"), "--quiet", "--budget-names", "50"]
+    words += ["--folder", str(place.store), "--program", place.program]
+    words += ["--sockets", "/nonexistent", str(crowd)]
+    subprocess.run(words, check=True, preexec_fn=take_own_mounts, timeout=100)
+    owners = json.loads((place.store / "mirror.status").read_text())["owners"].values()
+    shut = sum(owner["shut"].get("budget-names", 0) for owner in owners)
+    score.check(0 < shut < 30, f"of two numbers of one account {shut} names are over its budget")
 
 
 def of_disk(folder: Path, program: str, score: Score) -> None:
@@ -276,6 +297,8 @@ def main() -> int:
         for one in ("mirror", "service"):
             (folder / one).mkdir()
         of_mirror(Place(folder / "mirror", given.program), score)
+        (folder / "subordinates").mkdir()
+        of_subordinates(Place(folder / "subordinates", given.program), score)
         served = Served(folder / "service", given.program)
         (served.tree / "a").write_text("apple\n")
         try:

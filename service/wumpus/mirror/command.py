@@ -17,6 +17,7 @@ from types import FrameType
 
 from .. import VERSION
 from ..shared.notify import notify
+from ..shared.persons import Persons
 from ..shared.privileges import become_owner_of
 from ..shared.progress import Progress, plain
 from ..shared.store import CONTROL, FOLDER, SOCKETS, Busy, Failed, check_own, only_one
@@ -133,7 +134,9 @@ def patterns_in(path: Path) -> list[bytes]:
     return [line for line in lines if line and not line.startswith(b"#")]
 
 
-def wish_of(given: argparse.Namespace, folder: Path, users: Groups) -> Wish:
+def wish_of(
+    given: argparse.Namespace, folder: Path, users: Groups, person_of: Callable[[int], int]
+) -> Wish:
     """What the options ask for. Raises `OSError`."""
     omitted: frozenset[Identity] = frozenset([identity_of(folder.stat())])
     excludes = [os.fsencode(pattern) for pattern in given.exclude]
@@ -141,7 +144,7 @@ def wish_of(given: argparse.Namespace, folder: Path, users: Groups) -> Wish:
         excludes += patterns_in(Path(given.exclude_from))
     limits = Limits(tuple(excludes), given.one_file_system, omitted, Access(given.unlisted))
     roots = tuple(os.fsencode(root) for root in given.roots)
-    return Wish(roots, limits, users, budget_of(given))
+    return Wish(roots, limits, users, budget_of(given), person_of)
 
 
 def reach_of(given: argparse.Namespace, folder: Path) -> Direct | Served:
@@ -189,6 +192,7 @@ class Session:
         self.progress = progress
         self.watch = Watch(folder)
         self.users: Callable[[], Groups] = dict
+        self.persons = Persons(progress.warn)
         self.told = ""  # what was missing or held at the last turn
 
     def run(self) -> None:
@@ -202,8 +206,7 @@ class Session:
             mirror.begin(self.given.anew, self.given.dry_run)
             self.given.anew = False
             if self.given.dry_run:
-                wish = wish_of(self.given, self.folder, self.users())
-                mirror.dry_run(wish, sys.stdout.buffer)
+                mirror.dry_run(self._wish(), sys.stdout.buffer)
             else:
                 self._turns(mirror)
             is_whole = True
@@ -236,10 +239,14 @@ class Session:
                 return
             wanted = wanted or self._wait(due)
 
+    def _wish(self) -> Wish:
+        """What is to be mirrored now, and whose each number of a user is."""
+        self.persons.look()
+        return wish_of(self.given, self.folder, self.users(), self.persons.of)
+
     def _turn(self, mirror: Mirror, wanted: Wanted, due: float) -> Wanted:
         """One turn: what is asked for meanwhile ends it."""
-        wish = wish_of(self.given, self.folder, self.users())
-        wish = replace(wish, force=wanted.force, first=wanted.paths)
+        wish = replace(self._wish(), force=wanted.force, first=wanted.paths)
         self.watch.tell("walking")
         with without_cycles():
             mirror.walk(wish)

@@ -13,11 +13,11 @@ from types import FrameType
 
 from ..shared.accounts import system_account
 from ..shared.notify import notify
+from ..shared.persons import Persons
 from ..shared.program import Program, die_with_parent
 from ..shared.store import ASK, CONTROL, Aside, Failed, check_own, only_program
 from .loop import Places, Service
 from .options import allowed_of, bounds_of, mode_of, parser
-from .persons import Persons
 from .sockets import group_number, listening, listening_for
 from .status import Reports
 

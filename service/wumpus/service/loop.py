@@ -16,6 +16,7 @@ from pathlib import Path
 
 from ..shared import queries
 from ..shared.clock import moment
+from ..shared.persons import Persons
 from ..shared.program import Program
 from ..shared.script import escape, unescape
 from ..shared.store import move_aside
@@ -26,7 +27,6 @@ from .engine import Engine
 from .freshness import Freshness, Told
 from .groups import Groups
 from .merging import Merging
-from .persons import Persons
 from .tasks import Asked, Cause, Failure, Fed, Line, NoFile
 from .turns import Turns
 from .waits import Waits

@@ -5,10 +5,10 @@ import math
 import re
 
 from .. import VERSION
+from ..shared.persons import SUBORDINATE
 from ..shared.store import FOLDER, SOCKETS
 from .allowed import Allowed, ranges_of
 from .clients import Bounds
-from .persons import SUBORDINATE
 
 SECONDS_AT_MOST = 1e9
 CONNECTIONS_AT_MOST = 100_000

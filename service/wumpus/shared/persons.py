@@ -10,8 +10,8 @@ from collections.abc import Callable
 from dataclasses import dataclass
 from pathlib import Path
 
-from ..shared.progress import plain
-from ..shared.script import NUMBER_MAX
+from .progress import plain
+from .script import NUMBER_MAX
 
 ACCOUNTS = Path("/etc/passwd")
 SUBORDINATE = Path("/etc/subuid")
