@@ -463,7 +463,7 @@ def torn(trial: Trial) -> None:
     others = [path for path in trial.paths(BOB) if path.startswith("other/")]
     trial.check(len(others) == 19, f"{len(others)} of another directory")
     trial.check(nodes <= set(trial.mirror.state.tree.nodes), "nothing is removed")
-    trial.check(visits < 200, f"{visits} visits of some fifty directories")
+    trial.check(visits < 600, f"{visits} visits of some fifty directories")
     report = trial.turn()
     trial.check(len(trial.paths(BOB)) == 39, f"afterwards: {len(trial.paths(BOB))}")
     trial.check(report.texts == 0, f"{report.texts} texts were sent again")

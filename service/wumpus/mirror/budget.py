@@ -77,6 +77,7 @@ class Accounts:
         self.by_owner: dict[int, Account] = {0: self._unbounded(math.inf)}
         self.by_directory: dict[Identity, Account] = {}
         self.patience = PATIENCE_OF_ALL
+        self.waited = 0.0  # seconds, in all
 
     @staticmethod
     def _unbounded(seconds: float) -> Account:
@@ -141,4 +142,5 @@ class Accounts:
             return False
         time.sleep((YOUNG - age) / 1e9)
         self.wait(account, (YOUNG - age) / 1e9)
+        self.waited += (YOUNG - age) / 1e9
         return True

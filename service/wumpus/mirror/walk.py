@@ -23,9 +23,9 @@ from .visit import Listing, Remark, Visit
 from .way import DIRECTORY_FLAGS, Restless, Step, Torn, Ways
 
 ATTEMPTS = 5
-WINDOW = 256  # directories that are read in a window
+WINDOW = 256  # directories that are read in a window, where nothing changes
 NAMES_OF_WINDOW = 20_000
-SECONDS_OF_WINDOW = 0.5
+SECONDS_OF_WINDOW = 0.2
 
 
 class Walk:
@@ -61,7 +61,9 @@ class Walk:
         self.seen = 0
         self.waiting: list[Visit] = []
         self.visits: dict[SeenDirectory, Visit] = {}
+        self.room = WINDOW  # directories in a window: fewer, where something changes all the while
         self.began = 0.0  # of the window
+        self.waited = 0.0  # before the window
 
     def walk(self, roots: tuple[bytes, ...]) -> SeenDirectory:
         """Walks what is below the roots: `/`, with no more names than lead there.
@@ -83,21 +85,20 @@ class Walk:
 
     def _window(self) -> None:
         """Reads as many directories as go into a window, and takes those that stood still."""
-        self.began = time.monotonic()
+        self.began, self.waited = time.monotonic(), self.accounts.waited
         self.systems.refresh()
-        room = WINDOW >> 3 * self.waiting[-1].attempts or 1
         listings: list[Listing] = []
         names = 0
-        while self.waiting and len(listings) < room and names < NAMES_OF_WINDOW:
-            visit = self.waiting[-1]
-            if visit.attempts and listings or self._spent() > SECONDS_OF_WINDOW:
+        while self.waiting and len(listings) < self.room and names < NAMES_OF_WINDOW:
+            if listings and self._spent() > SECONDS_OF_WINDOW:
                 break
-            self.waiting.pop()
-            listing = self._visit(visit)
+            listing = self._visit(self.waiting.pop())
             if listing is not None:
                 listings.append(listing)
                 names += len(listing.directory.entries)
         self.ways.look()
+        is_still = not any(step.cause for step in self.ways.steps.values())
+        self.room = min(WINDOW, 2 * self.room) if is_still else max(1, self.room // 4)
         self._end_window(listings)
         self.tick(self.seen)
         self.ways.keep(self.waiting[-1].above if self.waiting else None)
@@ -134,7 +135,8 @@ class Walk:
         """Has a directory read again, as long as the owner of the cause has patience left."""
         account = self.ways.account_of(cause)
         if counted is None or cause not in counted:
-            self.accounts.wait(account, self._spent())
+            lost = self._spent() - (self.accounts.waited - self.waited)
+            self.accounts.wait(account, max(0.0, lost))
         if counted is not None:
             counted.add(cause)
         if visit.attempts + 1 < ATTEMPTS and self.accounts.is_patient(account):
@@ -231,10 +233,18 @@ class Walk:
                 return None
             return self._directory(visit, descriptor, status)
         except Restless:
-            self._keep(visit, Reason.TORN)
+            self._wait_again(visit, os.fstat(descriptor))
         except OSError as error:
             self._unreadable(visit, error)
         return None
+
+    def _wait_again(self, visit: Visit, status: os.stat_result) -> None:
+        """Has a directory visited again that doesn't rest, as long as its owner has patience."""
+        account = self.accounts.of_directory(status.st_uid, status.st_mode, identity_of(status))
+        if visit.attempts + 1 < ATTEMPTS and self.accounts.is_patient(account):
+            self.waiting.append(visit._replace(attempts=visit.attempts + 1))
+        else:
+            self._keep(visit, Reason.TORN, status.st_uid)
 
     def _directory(
         self, visit: Visit, descriptor: int, status: os.stat_result

@@ -17,6 +17,7 @@ from .budget import Account, Accounts
 from .nodes import Rights, identity_of
 from .seen import SeenDirectory
 
+WAITS = 2  # times that a change is waited for in a window, which holds for others too
 DIRECTORY_FLAGS = os.O_RDONLY | os.O_DIRECTORY | os.O_NOFOLLOW | os.O_CLOEXEC
 
 
@@ -29,7 +30,7 @@ class Torn(Exception):
 
 
 class Restless(Exception):
-    """Something changed just now, and its owner has no more time to be waited for."""
+    """Something changed just now, and goes on changing, or its owner has no more patience left."""
 
 
 @dataclass(slots=True, eq=False)
@@ -64,15 +65,16 @@ class Ways:
     def settled(self, descriptor: int) -> os.stat_result:
         """The status of what is open there, once it is old. Raises `Restless`, and `OSError`."""
         status = os.fstat(descriptor)
-        while True:
+        for _ in range(WAITS):
             account = self.accounts.of_directory(
                 status.st_uid, status.st_mode, identity_of(status)
             )
             if not self.accounts.wait_for(account, status.st_ctime_ns):
-                raise Restless
+                break
             before, status = status, os.fstat(descriptor)
             if status.st_ctime_ns == before.st_ctime_ns:
                 return status
+        raise Restless
 
     def enter(self, directory: SeenDirectory, descriptor: int, above: Step | None) -> Step:
         """Holds open a directory that was seen just now, with this descriptor."""
