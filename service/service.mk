@@ -9,7 +9,7 @@ SERVICE_TESTS := \
 	stand_in \
 	plan \
 	state \
-	mirror \
+	mirror bounds running \
 	look \
 	language \
 	ask \

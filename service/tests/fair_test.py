@@ -27,11 +27,11 @@ from service_test import ANN, BOB, CAROL, Served, as_user, ask_here, kill_progra
 from wumpus.service.clients import Client, Query
 from wumpus.service.groups import USERS_AT_MOST, Groups
 from wumpus.service.merging import HELD_AFTER, Merging
-from wumpus.shared.persons import Persons
 from wumpus.service.tasks import Cause, Failure, Line, Task
 from wumpus.service.turns import Turns
 from wumpus.service.waits import FIRST, FORGIVEN, LONGEST, Waits
 from wumpus.shared.peers import Peer
+from wumpus.shared.persons import Persons
 
 EVE = 3000  # who has the numbers from FIRST_OF_EVE on
 FIRST_OF_EVE = 300_000

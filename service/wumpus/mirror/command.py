@@ -63,7 +63,7 @@ def parser() -> argparse.ArgumentParser:
     add("--unlisted", action="store_true", help="show also what only who knows its name may open")
     add("--users", metavar="FILE", help="a user and her groups a line, in place of the system's")
     add("--served", action="store_true", help="only by a service: never run the program itself")
-    add("--every", type=float, metavar="SECONDS", help="go on for ever, a turn so often")
+    add("--every", type=seconds_of, metavar="SECONDS", help="go on for ever, a turn so often")
     add("--now", action="append", default=[], metavar="PATH",
         help="look at this path at once, also where another mirror runs; may be given again")  # fmt: skip
     add("--force", action="store_true", help="take away what is held, as it was found")
@@ -234,6 +234,8 @@ class Session:
                 tell(mirror.report, mirror.pending.files, time.monotonic() - began)
             is_first = False
             self._tell_unfinished(mirror.report)
+            if mirror.report.texts:
+                self.watch.status.count(mirror.state.tree)
             self.watch.tell("waiting", self.told or None, is_due=True)
             if self.given.every is None:
                 return

@@ -1,14 +1,13 @@
 """Room for texts: on the disk of the store, and of what each owner may have the program keep."""
 
-import os
 from collections import Counter
 from collections.abc import Callable
 from pathlib import Path
 
+from ..shared.store import room_left
 from .budget import Budget
 from .nodes import Node, Tree
 
-ROOM_LEFT = 4 << 30  # bytes, or a tenth of the disk: texts leave them free, for rights and names
 STORED = 3  # bytes that a byte of text may take for a while, with its index
 
 
@@ -39,9 +38,7 @@ class Room:
 
         What it is left with is for names and rights, which have to go on.
         """
-        disk = os.statvfs(self.folder)
-        left = min(ROOM_LEFT, disk.f_blocks * disk.f_frsize // 10)
-        return disk.f_bavail * disk.f_frsize - STORED * size <= left
+        return room_left(self.folder) <= STORED * size
 
     def count(self, before: Node, after: Node) -> None:
         """Counts a text that takes the place of another one."""

@@ -3,6 +3,7 @@
 It is one JSON object, written whole beside the one before and then renamed; mode 0600.
 """
 
+import contextlib
 import json
 import os
 import time
@@ -10,6 +11,7 @@ from collections import Counter
 from pathlib import Path
 from typing import Any
 
+from ..shared.whole import write_whole
 from .nodes import Tree
 from .pending import Pending
 from .reasons import Reason
@@ -47,16 +49,8 @@ class StatusFile:
         if not is_due and time.monotonic() - self.last < EVERY:
             return
         self.last = time.monotonic()
-        told = self._told(mirror, doing, trouble)
-        new = self.path.with_suffix(".new")
-        try:
-            new.unlink(missing_ok=True)
-            flags = os.O_WRONLY | os.O_CREAT | os.O_EXCL | os.O_NOFOLLOW | os.O_CLOEXEC
-            with open(os.open(new, flags, 0o600), "w", encoding="utf-8") as out:
-                json.dump(told, out)
-            os.replace(new, self.path)
-        except OSError:
-            return
+        with contextlib.suppress(OSError):
+            write_whole(self.path, json.dumps(self._told(mirror, doing, trouble)).encode())
 
     def _told(self, mirror: Mirror, doing: str, trouble: str | None) -> dict[str, Any]:
         walked, pending, remarks = mirror.walked, mirror.pending, mirror.remarks
