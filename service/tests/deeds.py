@@ -318,6 +318,10 @@ def call_by_other_numbers(_: Place) -> bool:
     return True
 
 
+def may_dump_core(_: Place) -> bool:
+    return resource.getrlimit(resource.RLIMIT_CORE)[1] != 0
+
+
 def may_get_privileges(_: Place) -> bool:
     return int(_libc.prctl(_KEEPS_NO_NEW_PRIVILEGES, 0, 0, 0, 0)) == 0
 
@@ -381,6 +385,7 @@ DEEDS = [
     Deed(take_descriptors, (SECCOMP, LIMITS)),
     Deed(lock_memory, (SECCOMP, LIMITS)),
     Deed(execute_memory, (SECCOMP,), by_program=True),  # as its loader does
+    Deed(may_dump_core, (LIMITS,)),
     Deed(may_get_privileges, (LANDLOCK,)),
 ]
 if platform.machine() == "x86_64":

@@ -18,7 +18,8 @@ from pathlib import Path
 from extracting import EXTRACT, Extracting, has, made, text
 from harness import Score, folder_of_own, needs_root, options
 
-from wumpus.extract import asker, samples  # isort: skip
+from wumpus.extract import asker, samples, system  # isort: skip
+from wumpus.extract.calls import Action, Rule, program_of  # isort: skip
 from wumpus.extract.client import Extractor  # isort: skip
 from wumpus.extract.kinds import BUILT_IN, BadTable, table_of  # isort: skip
 from wumpus.extract.tidy import tidied  # isort: skip
@@ -391,6 +392,26 @@ def asking(folder: Path, score: Score) -> None:
         score.check(found == due, f"user {user}: {found}")
 
 
+def asking_without(folder: Path, score: Score) -> None:
+    """Where the kernel has no Landlock a user is shown no line; nor after one that takes long."""
+    told, tells = os.pipe()
+    process = os.fork()
+    if process == 0:
+        os.setresuid(EXTRACT, EXTRACT, EXTRACT)
+        asks = asker.Asker()
+        slow = _place(asks, folder / "slow.html") + _place(asks, folder / "a.html")
+        system.forbid_new_privileges()
+        rules = [Rule("landlock_create_ruleset", Action.NOT_KNOWN)]
+        system.filter_calls(program_of(rules, Action.ALLOW))
+        os.write(tells, (slow + _place(asker.Asker(), folder / "a.html")).encode())
+        os._exit(0)
+    os.close(tells)
+    with os.fdopen(told) as places:
+        found = places.read()
+    os.waitpid(process, 0)
+    score.check(found == "---", f"without Landlock, and after a slow one: {found}")
+
+
 def _place(asks: asker.Asker, path: Path) -> str:
     """Where a file has the word, as it is shown."""
     descriptor = os.open(path, os.O_RDONLY)
@@ -419,6 +440,8 @@ def main() -> int:
             part(extractor, score)
         programs(folder, score)
         asking(folder, score)
+        (folder / "slow.html").write_bytes(b"<" * 3_000_000)
+        asking_without(folder, score)
         extracting.close()
     return score.end()
 

@@ -373,6 +373,28 @@ def _find_here(ways: Marks, tells: int) -> None:
     call("keyctl", 21, call("request_key", b"user", b"wumpus-mark", None, -4))
 
 
+def hidden_memory(extracting: Extracting, score: Score) -> None:
+    """Another process of the server's user reads nothing of it, and can't trace it."""
+    extracting.extractor()
+    told, tells = os.pipe()
+    process = os.fork()
+    if process == 0:
+        become(EXTRACT)
+        for name in ("mem", "maps", "fd/3"):
+            with suppress(OSError):
+                os.close(os.open(f"/proc/{extracting.process}/{name}", os.O_RDONLY))
+                os.write(tells, name.encode())
+        with suppress(OSError):
+            call("ptrace", 0x4206, extracting.process, 0, 0)
+            os.write(tells, b"trace")
+        os._exit(0)
+    os.close(tells)
+    with os.fdopen(told) as found:
+        reached = found.read()
+    os.waitpid(process, 0)
+    score.check(reached == "", f"a process of the same user reaches: {reached}")
+
+
 def ten_users(extracting: Extracting, count: int, score: Score) -> None:
     """Documents of ten users, each with words of its own: no text has another's word."""
     extractor = extracting.extractor()
@@ -529,6 +551,7 @@ def main() -> int:
         bad_places(extracting, folder, score)
         hostile_workers(score)
         marks(folder, score)
+        hidden_memory(extracting, score)
         ten_users(extracting, given.documents, score)
         reads_nothing(extracting, folder, score)
         stopped(extracting, score)

@@ -31,7 +31,7 @@ from wumpus.extract.worker import CodeTask, begin  # isort: skip
 
 HOSTILE = 64511
 ALLOWED = Allowance(1, 256)
-PATIENCE = 20.0
+PATIENCE = 40.0
 
 
 def open_document(data: bytes, is_sealed: bool) -> int:

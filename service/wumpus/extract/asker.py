@@ -11,11 +11,13 @@ from ..shared.texts import FRONT
 from .documents import DOCUMENT_MAX, Document
 from .kinds import LINES_OF_FILE, PAGED, BadTable, Table, table_here
 from .own import OwnWorkers
+from .reasons import Reason
 from .tasks import load, tasks_of
 from .texts import Failed, Made, text_of
 from .walls import Missing
 
 MADE_MAX = 10  # documents for one question
+SECONDS = 2  # of the processor for one of them: who asks waits
 _PIECE = 1 << 20
 
 
@@ -29,7 +31,7 @@ class Line:
 
 
 class Asker:
-    """Makes texts, each document's but once, and of at most ten documents."""
+    """Makes the texts of at most ten documents, and of none after one that took too long."""
 
     def __init__(self) -> None:
         self.left = MADE_MAX
@@ -56,10 +58,14 @@ class Asker:
             try:
                 if not _fill(document, descriptor):
                     return None
-                made = text_of(self.workers, self.table, name, document)
+                made = text_of(self.workers, self.table, name, document, SECONDS)
             except OSError:
                 return None
-        return None if isinstance(made, Failed) else made
+        if isinstance(made, Failed):
+            if made.reason in (Reason.TIME, Reason.LATE):
+                self.left = 0
+            return None
+        return made
 
     def _is_ready(self) -> bool:
         """Loads the filters, the first time, which takes some hundredths of a second."""

@@ -72,10 +72,16 @@ def text_limit(size: int) -> int:
     return min(TEXT_MAX, TEXT_PER_BYTE * size + TEXT_FREE)
 
 
-def text_of(workers: Workers, table: Table, name: bytes, document: Document) -> Made | Failed:
-    """The text of a sealed document that has this name. One of no kind is broken."""
+def text_of(
+    workers: Workers, table: Table, name: bytes, document: Document, seconds: int | None = None
+) -> Made | Failed:
+    """The text of a sealed document that has this name. One of no kind is broken.
+
+    It may take ten seconds of the processor, or as many as are given.
+    """
     kind = table.kind_of(name, document.front)
-    making = _Making(workers, table, _Bounds(text_limit(document.size)))
+    bounds = _Bounds(text_limit(document.size), SECONDS if seconds is None else seconds)
+    making = _Making(workers, table, bounds)
     try:
         if kind is None:
             raise _Enough(Reason.BROKEN)
@@ -106,6 +112,7 @@ class _Bounds:
     """What is left for one file and all that is within it."""
 
     text: int
+    seconds_allowed: int
     within: int = WITHIN_MAX
     bytes_within: int = DOCUMENT_MAX
     seconds: float = 0.0  # that were taken
@@ -125,7 +132,7 @@ class _Bounds:
 
     def allowance(self) -> Allowance:
         """What the next worker may take. Raises `_Enough` where nothing is left."""
-        left = math.ceil(SECONDS - self.seconds)
+        left = math.ceil(self.seconds_allowed - self.seconds)
         if left <= 0:
             raise _Enough(Reason.TIME)
         return Allowance(left, MEMORY)

@@ -53,7 +53,6 @@ def limit(allowed: Allowance) -> None:
         (resource.RLIMIT_MSGQUEUE, 0),
         (resource.RLIMIT_NOFILE, DESCRIPTORS),
         (resource.RLIMIT_NPROC, 0),
-        (resource.RLIMIT_SIGPENDING, 0),
     ):
         resource.setrlimit(what, (value, value))
     # At the first of both it is told, at the second it is killed.
