@@ -22,6 +22,7 @@ from wumpus.extract import asker, samples, system  # isort: skip
 from wumpus.extract.calls import Action, Rule, program_of  # isort: skip
 from wumpus.extract.client import Extractor  # isort: skip
 from wumpus.extract.kinds import BUILT_IN, BadTable, table_of  # isort: skip
+from wumpus.extract.reasons import Reason  # isort: skip
 from wumpus.extract.tidy import tidied  # isort: skip
 from wumpus.extract.texts import Failed, Made  # isort: skip
 from wumpus.shared.words import words_of  # isort: skip
@@ -186,6 +187,8 @@ def lines(extractor: Extractor, score: Score) -> None:
     score.check(_lines_of(told, source) == _lines_of(written, source), "html with CR LF")
     for name, data in packings(source.whole).items():
         score.check(text(extractor, name, data) == source.whole, f"{name}: the same lines")
+    told = text(extractor, "a.bin", b"\xff\xfe" + bytes(range(256)) * 4)
+    score.check(told == "[BROKEN]", f"no text, though it begins like one: {told!r}")
     for coding in ("utf-16-le", "utf-16-be"):
         plain = "plain words\nand others\n" * 20
         told = text(extractor, "a.txt", plain.encode(coding))
@@ -355,8 +358,12 @@ def programs(folder: Path, score: Score) -> None:
     told = text(extractor, "a.small", "\u201capple\u201d".encode())
     score.check(told == '"apple"', f"by a program: {told!r}")
     gone = made(extractor, "a.gone", b"apple")
-    right = isinstance(gone, Failed) and not gone.reason.final
+    right = isinstance(gone, Failed) and gone.reason is Reason.NOT_MADE
     score.check(right, f"a program that isn't there: {gone}")
+    whole = (MAIL % ("YXBwbGU=", "", "")).replace("xlsx", "gone").encode()
+    letter = made(extractor, "a.eml", whole)
+    right = isinstance(letter, Made) and letter.left_out == 1 and b"letter itself" in letter.text
+    score.check(right, f"a mail with such a document: {letter}")
     score.check("gone" not in extractor.fingerprints, "it isn't offered")
     score.check("gone" in extracting.told.read_text(), "the server tells of it")
     extracting.close()

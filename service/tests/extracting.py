@@ -55,7 +55,7 @@ class Extracting:
     def extractor(self) -> Extractor:
         """A connection to it, as the mirror has one."""
         extractor = Extractor(self.table, self.path)
-        until = time.monotonic() + 20
+        until = time.monotonic() + 60
         while not extractor.reach() and time.monotonic() < until:
             time.sleep(0.1)
         return extractor

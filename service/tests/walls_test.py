@@ -267,18 +267,26 @@ def open_walls(score: Score) -> None:
                 status = 7
         os._exit(status)
     score.check(os.waitstatus_to_exitcode(os.waitpid(child, 0)[1]) == 7, "open walls are found")
+    for open_one, due in ((LANDLOCK, 1), (SECCOMP, 1), ("none", 0)):
+        status = status_of_worker(open_one)
+        score.check(status == due, f"a worker tries its walls itself, {open_one} open: {status}")
+
+
+def status_of_worker(open_wall: str) -> int:
+    """How a worker of a text ends, one of whose walls doesn't hold."""
     child = os.fork()
     if child == 0:
         become(HOSTILE)
         ready = Walls.for_code()
-        ready.program = program_of([], Action.ALLOW)
-        with mock.patch.object(ready.rules, "restrict", lambda: None):
-            document, nowhere = open_document_here(b"W"), os.open(os.devnull, os.O_RDWR)
-            task = CodeTask(ready, FILTERS[PLAIN])
-            process = begin(task, (document, 1, nowhere), ALLOWED)
-            os._exit(os.waitstatus_to_exitcode(os.waitpid(process, 0)[1]))
-    status = os.waitstatus_to_exitcode(os.waitpid(child, 0)[1])
-    score.check(status == 1, f"a worker tries its walls itself before it reads: {status}")
+        if open_wall == LANDLOCK:
+            mock.patch.object(ready.rules, "restrict", do_nothing).start()
+        if open_wall == SECCOMP:
+            ready.program = program_of([], Action.ALLOW)
+        document, nowhere = open_document_here(b""), os.open(os.devnull, os.O_RDWR)
+        task = CodeTask(ready, FILTERS[PLAIN])
+        process = begin(task, (document, nowhere, nowhere), ALLOWED)
+        os._exit(os.waitstatus_to_exitcode(os.waitpid(process, 0)[1]))
+    return os.waitstatus_to_exitcode(os.waitpid(child, 0)[1])
 
 
 def main() -> int:

@@ -33,7 +33,7 @@ from .packets import (
     answer_of,
     offers_of,
 )
-from .reasons import Ended, Way
+from .reasons import Ended, Reason, Way
 from .texts import Failed, Made, text_of
 from .walls import Allowance
 
@@ -174,6 +174,8 @@ class Extractor:
 
     def text_of(self, name: bytes, document: Document) -> Made | Failed:
         """The text of a sealed document with this name, or why it has none."""
+        if self.server is None:
+            return Failed(Reason.NO_SERVER, 0.0)
         return text_of(self, self.table, name, document)
 
     def is_program(self, kind: str) -> bool | None:

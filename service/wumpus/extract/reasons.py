@@ -11,6 +11,7 @@ class Reason(Enum):
     BROKEN = "isn't what its name or its first bytes say"
     ENCRYPTED = "is encrypted"
     PROGRAM = "its program gave up: it is broken, or encrypted"
+    NOT_MADE = "nothing here makes text of its kind"
     TEXT = "has too much text for its size"
     WITHIN = "has too much within it"
     TIME = "takes too much time of the processor"
@@ -24,7 +25,10 @@ class Reason(Enum):
 
     @property
     def final(self) -> bool:
-        """Tells whether the same document would fail again, on a machine with time and memory."""
+        """Tells whether the same document would fail again, on a machine with time and memory.
+
+        One of a kind that isn't made would until the server has another fingerprint for the kind.
+        """
         return self not in _PASSING
 
 

@@ -281,7 +281,7 @@ class _Making:
         """Puts the text of a document behind that which is there. Raises `_Enough`."""
         is_program = self.workers.is_program(kind)
         if is_program is None:
-            raise _Enough(Reason.NO_SERVER)
+            raise _Enough(Reason.NOT_MADE)
         told = self._told(kind, document, is_program)
         try:
             if is_program:

@@ -5,10 +5,12 @@ be taken down again. There is no way to leave one out.
 """
 
 import ctypes
+import fcntl
 import os
 import resource
 import signal
 import struct
+from collections.abc import Callable
 from dataclasses import dataclass
 from pathlib import Path
 
@@ -60,13 +62,11 @@ def limit(allowed: Allowance) -> None:
 
 
 def hold_only(document: int, output: int, nowhere: int) -> None:
-    """Has no descriptor but the document, the pipe, and one that leads nowhere.
-
-    None of the three may be one of the first three numbers itself.
-    """
-    os.dup2(document, DOCUMENT)
-    os.dup2(output, OUTPUT)
-    os.dup2(nowhere, ERRORS)
+    """Has no descriptor but the document, the pipe, and one that leads nowhere."""
+    # Where this process was begun without them, one of the three may be among the first three.
+    given = [fcntl.fcntl(one, fcntl.F_DUPFD, ERRORS + 1) for one in (document, output, nowhere)]
+    for number, one in enumerate(given):
+        os.dup2(one, number)
     system.close_all_from(ERRORS + 1)
 
 
@@ -122,19 +122,26 @@ class Walls:
         """From here on Landlock says which files there are."""
         system.forbid_new_privileges()
         self.rules.restrict()
+        _check_refused(lambda: os.open("/", os.O_RDONLY | os.O_CLOEXEC))
 
     def filter(self) -> None:
-        """From here on seccomp says which calls there are, and it is tried that the walls hold."""
+        """From here on seccomp says which calls there are."""
         system.filter_calls(self.program)
-        try:
-            os.open("/", os.O_RDONLY | os.O_CLOEXEC)
-        except OSError:
-            return
-        raise Hole
+        # A call that takes nothing from anybody, and that is in no list.
+        _check_refused(lambda: os.sched_get_priority_max(os.SCHED_OTHER))
 
     def close(self) -> None:
         """Closes what is open of them."""
         self.rules.close()
+
+
+def _check_refused(call: Callable[[], object]) -> None:
+    """Raises `Hole` where a call works that mustn't behind the wall that was just put up."""
+    try:
+        call()
+    except OSError:
+        return
+    raise Hole
 
 
 _LOADER = 3  # PT_INTERP

@@ -45,7 +45,11 @@ def wide(data: bytes, output: Output) -> None:
     coding = coding_of_front(data)
     if coding is None:
         raise Refusal(Reason.BROKEN)
-    output.text(decoded(data, coding))
+    mark = marked(data)
+    size = 4 if coding.startswith("utf-32") else 2
+    # Something else that begins with such a mark is hardly ever good text.
+    whole = data[mark[1] if mark else 0 : len(data) // size * size]
+    output.text(whole.decode(coding))
 
 
 def plain(data: bytes, output: Output) -> None:
