@@ -422,14 +422,12 @@ def asking_without(folder: Path, score: Score) -> None:
 def _place(asks: asker.Asker, path: Path) -> str:
     """Where a file has the word, as it is shown."""
     descriptor = os.open(path, os.O_RDONLY)
-    told = asks.text_of(os.fsencode(path.name), descriptor)
+    told = asks.lines_of(os.fsencode(path.name), descriptor)
     os.close(descriptor)
     if told is None:
         return "-"
-    places = [
-        asker.place_of(told, line) for line in asker.lines_of(told, lambda line: b"apple" in line)
-    ]
-    return " ".join(places)
+    found = [number for number, line in enumerate(told.lines, 1) if b"apple" in line]
+    return " ".join(told.place(number) for number in found)
 
 
 def main() -> int:

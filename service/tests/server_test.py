@@ -31,7 +31,7 @@ from wumpus.extract.frames import HEAD, Output  # isort: skip
 from wumpus.extract.kinds import BUILT_IN, table_of  # isort: skip
 from wumpus.extract.own import OwnWorkers  # isort: skip
 from wumpus.extract.packets import Offer, Request  # isort: skip
-from wumpus.extract.reasons import Reason  # isort: skip
+from wumpus.extract.reasons import Reason, Way  # isort: skip
 from wumpus.extract.texts import Failed, text_of  # isort: skip
 from wumpus.extract.walls import Allowance, Walls  # isort: skip
 from wumpus.extract.worker import CodeTask, Filter, Task  # isort: skip
@@ -107,6 +107,27 @@ def client_goes_away(extracting: Extracting, score: Score) -> None:
         score.check(is_fine(extracting.extractor()), "the next client is served")
         score.check(time.monotonic() - began < 10, "and soon")
         os.close(run.output)
+
+
+def late_worker(extracting: Extracting, score: Score) -> None:
+    """A worker that takes no time of the processor and doesn't end is ended by the clock."""
+    extractor = extracting.extractor()
+    with Document.of(b"<" * 3_000_000) as document:
+        run = extractor.begin("html", document, Allowance(1, 256))
+        began = time.monotonic()
+        while not (workers := _children_of(extracting.process)) and time.monotonic() - began < 2:
+            time.sleep(0.01)
+        for one in workers:
+            os.kill(one, signal.SIGSTOP)
+        told = run.end()
+    score.check(told.way is Way.LATE, f"a worker that stands still: {told}")
+    score.check(is_fine(extractor), "and the next document is made")
+
+
+def _children_of(process: int) -> list[int]:
+    """The children of a process."""
+    told = Path(f"/proc/{process}/task/{process}/children").read_text()
+    return [int(one) for one in told.split()]
 
 
 def bad_places(extracting: Extracting, folder: Path, score: Score) -> None:
@@ -548,6 +569,7 @@ def main() -> int:
         extracting = Extracting(folder)
         hostile_clients(extracting, score)
         client_goes_away(extracting, score)
+        late_worker(extracting, score)
         bad_places(extracting, folder, score)
         hostile_workers(score)
         marks(folder, score)

@@ -4,7 +4,6 @@ A search mustn't run a hostile document of somebody else with the rights of its 
 """
 
 import os
-from collections.abc import Callable, Iterator
 from dataclasses import dataclass
 
 from ..shared.texts import FRONT
@@ -22,12 +21,37 @@ _PIECE = 1 << 20
 
 
 @dataclass(frozen=True)
-class Line:
-    """A line of a document: its number, and the page or slide it is on, if there are any."""
+class Lines:
+    """The lines of a document's text, and how the place of each is told."""
 
-    number: int
-    page: int | None
-    text: bytes
+    lines: list[bytes]  # without LF and form feeds
+    pages: list[int]  # the page or slide of each; empty where there are none
+    is_file: bool  # they are those of the file itself, or of what is packed in it
+
+    def page(self, number: int) -> int | None:
+        """The page of a line, whose number begins with 1; None where there are no pages."""
+        return self.pages[number - 1] if self.pages else None
+
+    def place(self, number: int) -> str:
+        """What stands before a line: its number in the file, its page, or its paragraph."""
+        page = self.page(number)
+        if page is not None:
+            return f"p. {page}"
+        return str(number) if self.is_file else f"par. {number}"
+
+
+def lines_of(made: Made) -> Lines:
+    """The lines of a text."""
+    lines = made.text.split(b"\n")
+    if not lines[-1].strip(b"\f"):
+        lines.pop()
+    pages = []
+    if made.kind in PAGED and b"\f" in made.text:
+        page = 1
+        for line in lines:
+            page += line.count(b"\f")
+            pages.append(page)
+    return Lines([line.strip(b"\f") for line in lines], pages, made.kind in LINES_OF_FILE)
 
 
 class Asker:
@@ -46,10 +70,11 @@ class Asker:
         """Tells whether a file with this name that begins so is a document."""
         return self.table.kind_of(name, front[:FRONT]) is not None
 
-    def text_of(self, name: bytes, descriptor: int) -> Made | None:
-        """The text of a file that is open for reading, from its beginning.
+    def lines_of(self, name: bytes, descriptor: int) -> Lines | None:
+        """The lines of a document's file that is open for reading, from its beginning.
 
-        None where there is none, or where the walls can't be put up here.
+        None where there are none, or where the walls can't be put up here: then nothing of the file
+        itself is to be shown either.
         """
         if not self._is_ready() or self.left == 0 or self.workers is None:
             return None
@@ -65,7 +90,7 @@ class Asker:
             if made.reason in (Reason.TIME, Reason.LATE):
                 self.left = 0
             return None
-        return made
+        return lines_of(made)
 
     def _is_ready(self) -> bool:
         """Loads the filters, the first time, which takes some hundredths of a second."""
@@ -89,20 +114,3 @@ def _fill(document: Document, descriptor: int) -> bool:
             return False
     document.seal()
     return True
-
-
-def lines_of(made: Made, is_wanted: Callable[[bytes], bool]) -> Iterator[Line]:
-    """The lines of a text that are wanted."""
-    page = 1
-    for number, line in enumerate(made.text.split(b"\n"), 1):
-        page += line.count(b"\f")
-        text = line.strip(b"\f")
-        if is_wanted(text):
-            yield Line(number, page if made.kind in PAGED and b"\f" in made.text else None, text)
-
-
-def place_of(made: Made, line: Line) -> str:
-    """What stands before a line: its number in the file, or its page, or its paragraph."""
-    if line.page is not None:
-        return f"p. {line.page}"
-    return f"{line.number}" if made.kind in LINES_OF_FILE else f"par. {line.number}"
