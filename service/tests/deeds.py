@@ -24,6 +24,7 @@ _USER_KEYS = -4
 _REMOVE = 0  # IPC_RMID
 _X32 = 0x40000000
 _SEIZE = 0x4206
+_SET_PARENT_DEATH = 1
 
 
 @dataclass
@@ -78,6 +79,7 @@ class Place:
         if self.victim == 0:
             become(self.user)
             _libc.prctl(_ANYBODY_MAY_TRACE, ctypes.c_ulong(-1), 0, 0, 0)
+            _libc.prctl(_SET_PARENT_DEATH, signal.SIGKILL, 0, 0, 0)
             while True:
                 signal.pause()
         time.sleep(0.1)
@@ -159,7 +161,8 @@ def watch_file(place: Place) -> bool:
 
 
 def connect_tcp(place: Place) -> bool:
-    socket.create_connection(("127.0.0.1", place.port), 1)
+    with socket.socket(socket.AF_INET, socket.SOCK_STREAM) as one:
+        one.connect(("127.0.0.1", place.port))
     return True
 
 

@@ -35,6 +35,11 @@ class Output(Protocol):
         """Puts a document that stands in this one."""
 
 
+def as_line(text: str) -> str:
+    """A text as a line, which ends here; nothing where it is blank."""
+    return text.replace("\n", " ") + "\n" if text and not text.isspace() else ""
+
+
 class Sink:
     """Where a filter puts its text, which is tidied here."""
 
@@ -52,8 +57,7 @@ class Sink:
 
     def line(self, text: str) -> None:
         """Puts a line, which ends here; none where it is blank."""
-        if text and not text.isspace():
-            self.text(text.replace("\n", " ") + "\n")
+        self.text(as_line(text))
 
     def within(self, hint: str, document: bytes) -> None:
         """Puts a document that stands in this one."""

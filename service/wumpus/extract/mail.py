@@ -7,7 +7,7 @@ from email.header import decode_header
 from email.message import Message
 
 from .coding import decoded
-from .frames import Output
+from .frames import Output, as_line
 from .page import named_coding, write_chapter
 
 _HEADS = ("Subject", "From", "To", "Cc", "Date")
@@ -35,8 +35,7 @@ class Part:
 
     def line(self, text: str) -> None:
         """Puts a line, which ends here; none where it is blank."""
-        if text and not text.isspace():
-            self.text(text.replace("\n", " ") + "\n")
+        self.text(as_line(text))
 
     def within(self, hint: str, document: bytes) -> None:
         """Puts what is attached."""
