@@ -9,7 +9,8 @@ SERVICE_TESTS := \
 	stand_in \
 	plan \
 	state \
-	mirror bounds running \
+	mirror \
+	running \
 	look \
 	language \
 	ask \
