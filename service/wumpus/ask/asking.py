@@ -21,8 +21,8 @@ REFUSALS = {
     b"manywords": "there are more than 64 words",
     b"badprefix": "a prefix is empty, or letters and digits alone",
     b"notready": "the service has just begun, and is still looking at the files: ask again soon",
-    b"stale": "the service hasn't looked at the files for too long, so nothing is answered",
-    b"stale": "what the service knows of the files is too old to answer by: tell the administrator",
+    b"stale": "the service hasn't looked at the files for too long, so it answers nothing: tell "
+    "the administrator",
     b"notallowed": "you aren't among those who may search here",
     b"tooslow": "this took too long, or a search of yours did before: wait, and ask for less",
     b"toolargereply": "there are too many results: ask for fewer with -n",
