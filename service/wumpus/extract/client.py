@@ -38,6 +38,7 @@ from .texts import Failed, Made, text_of
 from .walls import Allowance
 
 GREETING_SECONDS = 5.0
+ANEW_SECONDS = 30.0  # for a server that was just there, and begins anew: it tries its walls again
 GRACE = 5.0  # seconds beyond those after which the server kills a worker
 LAST_SECONDS = 1.0  # in which an answer comes where it is late already
 
@@ -74,14 +75,14 @@ class ServerRun:
 class Server:
     """A connection to the server."""
 
-    def __init__(self, path: Path) -> None:
-        """Connects, and hears what is made there. Raises `NoServer`."""
+    def __init__(self, path: Path, seconds: float) -> None:
+        """Connects, and hears what is made there, within some seconds. Raises `NoServer`."""
         _check_place(path)
         self.socket = socket.socket(socket.AF_UNIX, socket.SOCK_SEQPACKET)
         self.state = State.FINE
         self.tag = 0
         try:
-            self.socket.settimeout(GREETING_SECONDS)
+            self.socket.settimeout(seconds)
             self.socket.connect(str(path))
             offers = offers_of(self.socket.recv(GREETING_MAX))
         except (OSError, BadPacket) as error:
@@ -154,9 +155,12 @@ class Extractor:
 
     def reach(self) -> bool:
         """Tells whether a server is there: call it at the beginning of a turn."""
+        return self._connect(GREETING_SECONDS)
+
+    def _connect(self, seconds: float) -> bool:
         self.close()
         try:
-            self.server = Server(self.path)
+            self.server = Server(self.path, seconds)
         except NoServer as error:
             self.trouble = str(error)
         return self.server is not None
@@ -197,7 +201,7 @@ class Extractor:
 
     def _leave(self, state: State) -> None:
         if state is State.GONE:
-            self.reach()
+            self._connect(ANEW_SECONDS)
         else:
             self.close()
             self.trouble = "it didn't answer"
