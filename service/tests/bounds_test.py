@@ -9,6 +9,7 @@ import contextlib
 import errno
 import mmap
 import os
+import subprocess
 import sys
 import time
 from collections import Counter
@@ -28,7 +29,7 @@ from wumpus.mirror.reasons import Reason  # isort: skip
 from wumpus.mirror.turn import Mirror, Report, Wish  # isort: skip
 from wumpus.shared.progress import Progress  # isort: skip
 
-ANN, BOB, EVE = 1000, 1001, 1002
+ANN, BOB, EVE, ZOE = 1000, 1001, 1002, 1003
 SUBORDINATE = 200_000  # numbers of eve's own range, from here on
 CLOSED = b"count\t0\t0"
 
@@ -240,12 +241,12 @@ def in_turn(trial: Trial) -> None:
     for number in range(300):
         trial.write(f"eve/{number}", EVE)
     trial.walk()
-    trial.write("ann/one", ANN)
+    trial.write("zoe/one", ZOE)
     trial.write("eve/late", EVE)
     trial.walk()
     taken = [trial.mirror.pending.take() for _ in range(2)]
     owners = [{place.file.owner for place in places} for places in taken]
-    trial.check({ANN} in owners and {EVE} in owners, f"whose turn it was: {owners}")
+    trial.check({ZOE} in owners and {EVE} in owners, f"whose turn it was: {owners}")
     left = trial.mirror.pending.queues[EVE]
     trial.check(left[-1].name == b"late", f"the last: {left[-1].name!r}")
     trial.turn()
@@ -257,7 +258,7 @@ def young(trial: Trial) -> None:
 
     Its text may be another one by now, under the same ctime, and was meant for a closed directory.
     """
-    open_one = trial.write("open/file", ANN)
+    trial.write("open/file", ANN)
     closed = trial.write("closed/file", ANN, "secret\n" * 100)
     closed.parent.chmod(0o700)
     with mock.patch.object(look, "SETTLED", 3600 * 10**9):
@@ -273,8 +274,8 @@ def young(trial: Trial) -> None:
         trial.check(told == CLOSED, f"what was meant for the closed directory: {told!r}")
         trial.turn()
         trial.check(trial.count(BOB, "public") == b"count\t1\t1", "what is there now")
-        os.link(open_one, trial.tree / "open" / "more")
         trial.walk()
+        trial.check("open/file" in trial.paths(BOB), "what is young, once more")
         trial.walk()
         trial.check("open/file" not in trial.paths(BOB), "what waited over a walk")
 
@@ -370,21 +371,25 @@ def seconds(trial: Trial) -> None:
     os.chown(trial.tree / "shared", 0, 0)
     (trial.tree / "shared").chmod(0o1777)
     trial.write("shared/ann", ANN)
+    for number in range(40):
+        trial.write(f"zoe/{number % 4}/{number}", EVE if number >= 4 else ZOE)
     trial.turn()
     slow = {os.stat(trial.tree / "eve" / f"{number}").st_ino for number in range(10)}
+    slow |= {os.stat(trial.tree / "zoe" / f"{number}").st_ino for number in range(4)}
     trial.budget = Budget(seconds=0.05)
     with mock.patch.object(os, "scandir", slowly(slow, 0.03)):
         trial.turn()
     paths = trial.paths(BOB)
     trial.check(len([one for one in paths if one.startswith("ann/")]) == 10, "another's are seen")
     eves = [one for one in paths if one.startswith("eve/")]
-    trial.check(0 < len(eves) < 10, f"{len(eves)} of hers")
-    trial.check(trial.shut(EVE, Reason.SECONDS) == 10 - len(eves), "the others are told of")
+    trial.check(len(eves) < 10, f"{len(eves)} of hers")
+    trial.check(trial.shut(EVE, Reason.SECONDS) > 0, "the others are told of")
     trial.check("shared/ann" in paths, "another's file in a directory of user 0")
+    trial.check(len([one for one in paths if one.startswith("zoe/")]) == 40, "who lets her write")
     nodes = len(trial.mirror.state.tree.nodes)
     trial.budget = Budget()
     report = trial.turn()
-    trial.check(len(trial.paths(BOB)) == 31, f"with time again: {len(trial.paths(BOB))}")
+    trial.check(len(trial.paths(BOB)) == 71, f"with time again: {len(trial.paths(BOB))}")
     trial.check(len(trial.mirror.state.tree.nodes) == nodes, "nothing was removed")
     trial.check(report.texts == 0, f"{report.texts} texts were sent again")
 
@@ -527,7 +532,10 @@ def gone(trial: Trial) -> None:
 
 def most_is_gone(trial: Trial) -> None:
     """More than half is gone: it waits for force. What one person removes is hers to remove."""
-    for number in range(30):
+    for number in range(30, 90):
+        trial.write(f"ann/{number}", ANN)
+    trial.old()
+    for number in range(90):
         (trial.tree / "ann" / f"{number}").rename(trial.top / f"a{number}")
     report = trial.turn()
     trial.check(not report.held, f"what one person removes: {report.held}")
@@ -553,6 +561,41 @@ def most_is_gone(trial: Trial) -> None:
     trial.check(len(trial.paths(0)) == 1, f"by force: {len(trial.paths(0))}")
 
 
+def unmounted(trial: Trial) -> None:
+    """A file system that is unmounted: its files are held and shut, and are there again with it."""
+    aside = trial.top / "aside"
+    aside.mkdir()
+    if subprocess.run(["mount", "-t", "tmpfs", "none", str(aside)]).returncode != 0:
+        print("bounds: no mounts here, one part is skipped")
+        return
+    inner = trial.tree / "inner"
+    inner.mkdir()
+    try:
+        (aside / "file").write_text("apple\n")
+        subprocess.run(["mount", "--bind", str(aside), str(inner)], check=True)
+        trial.write("ann", ANN)
+        trial.old()
+        trial.check(trial.count(BOB) == b"count\t2\t2", f"at first: {trial.count(BOB)!r}")
+        subprocess.run(["umount", str(inner)], check=True)
+        (inner / "beneath").write_text("apple\n")
+        (trial.tree / "ann").chmod(0o600)
+        report = trial.turn()
+        trial.check(len(report.held) == 1, f"it is told: {report.held}")
+        trial.check(trial.count(BOB) == CLOSED, f"it is shut: {trial.count(BOB)!r}")
+        trial.check("inner/file" in trial.paths(0), "and not removed")
+        subprocess.run(["mount", "--bind", str(aside), str(inner)], check=True)
+        report = trial.turn()
+        trial.check(trial.count(BOB) == b"count\t1\t1", f"again: {trial.count(BOB)!r}")
+        trial.check(report.texts == 0, f"{report.texts} texts were sent again")
+        subprocess.run(["umount", str(inner)], check=True)
+        trial.force = True
+        trial.turn()
+        trial.check(trial.paths(0) == ["ann", "inner/beneath"], f"by force: {trial.paths(0)}")
+    finally:
+        for one in (inner, aside):
+            subprocess.run(["umount", str(one)], stderr=subprocess.DEVNULL)
+
+
 def memory(trial: Trial) -> None:
     """A batch that the program has no memory for is cut, and a text that it hasn't is shut."""
     for number in range(300):
@@ -567,7 +610,8 @@ def memory(trial: Trial) -> None:
     trial.reach.lines = trial.reach.size = sys.maxsize
     again = Mirror(trial.reach, trial.store, Progress("test", True))
     again.begin(False)
-    trial.check(again.state.serial == trial.mirror.state.serial, "the state is that of the program")
+    same = again.state.tree == trial.mirror.state.tree
+    trial.check(same, "what is written is what the program has")
     trial.turn()
     trial.check(trial.count(BOB) == b"count\t60000\t301", f"with memory: {trial.count(BOB)!r}")
 
@@ -590,7 +634,7 @@ def patience(trial: Trial) -> None:
 
 PARTS = (
     rights_first, in_turn, young, names, directories, links, text_bytes, seconds, deep, torn,
-    unseen, gone, memory, patience,
+    unseen, gone, unmounted, memory, patience,
 )  # fmt: skip
 
 

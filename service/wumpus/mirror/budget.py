@@ -16,7 +16,7 @@ from .nodes import Identity, Tree
 
 YOUNG = 50_000_000  # nanoseconds in which two changes may have one ctime
 PATIENCE_OF_OWNER = 2.0  # seconds that a walk, or the looks of a turn, wait for what one owns
-PATIENCE_OF_ALL = 30.0  # and for what all own
+PATIENCE_OF_ALL = 10.0  # and for what all own
 WRITABLE = 0o022  # by others than the owner
 
 

@@ -34,8 +34,10 @@ from .target import Target
 from .walk import Walk
 
 SLICE_SECONDS = 20.0
-SLICE_BYTES = 16 << 20  # of texts in a batch, for which queries wait
-FIRST_BYTES = 64 << 20  # the same, as long as nobody is answered
+FEED_SECONDS = 2.0  # that a batch of texts is to take, for which queries wait, and the next walk
+SLICE_BYTES = 16 << 20  # of texts in a batch at most
+SLICE_BYTES_LEAST = 1 << 20
+FIRST_BYTES = 64 << 20  # of texts in a batch, as long as nobody is answered
 
 
 @dataclass(frozen=True)
@@ -104,6 +106,7 @@ class Mirror:
         self.accounts = Accounts(Budget(), int)  # of the looks since the last walk
         self.room: Room | None = None
         self.is_done = False  # the program was told that all was fed once
+        self.slice_bytes = SLICE_BYTES  # as many as are fed in the time that a batch is to take
         self.most = sys.maxsize  # files in a batch: less, where the program has no memory for more
 
     @property
@@ -198,7 +201,7 @@ class Mirror:
         if self.pending.turns:
             texts = Texts(self.folder)
             try:
-                limit = SLICE_BYTES if self.state.complete else FIRST_BYTES
+                limit = self.slice_bytes if self.state.complete else FIRST_BYTES
                 taken = self._take(wish, time.monotonic() + seconds, texts, limit)
                 if taken:
                     self._feed(wish, taken, texts)
@@ -278,6 +281,7 @@ class Mirror:
         """Feeds what was seen; where the program has no memory for that, less comes next."""
         nodes = self.state.tree.nodes
         pairs: Pairs = [(nodes[found.node.number], found.node) for found in taken]
+        began = time.monotonic()
         try:
             self.feeder.feed_texts(pairs, texts)
         except NoMemory:
@@ -292,6 +296,9 @@ class Mirror:
         self.report.texts += texts.count
         self.report.size += texts.text_bytes
         self.most = min(sys.maxsize, 2 * self.most)
+        if texts.count:
+            rate = texts.size / max(1e-3, time.monotonic() - began)
+            self.slice_bytes = int(min(SLICE_BYTES, max(SLICE_BYTES_LEAST, FEED_SECONDS * rate)))
 
     # ---- a dry run
 
