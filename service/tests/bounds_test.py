@@ -20,7 +20,7 @@ from unittest import mock
 
 from harness import Score, folder_of_own, needs_program, needs_root, options, quick_folder
 
-from wumpus.mirror import budget, feed, look, target, walk  # isort: skip
+from wumpus.mirror import budget, feed, look, names as names_of, target, walk  # isort: skip
 from wumpus.mirror.batch import Batch  # isort: skip
 from wumpus.mirror.budget import Budget  # isort: skip
 from wumpus.mirror.limits import Limits  # isort: skip
@@ -376,8 +376,12 @@ def seconds(trial: Trial) -> None:
     trial.turn()
     slow = {os.stat(trial.tree / "eve" / f"{number}").st_ino for number in range(10)}
     slow |= {os.stat(trial.tree / "zoe" / f"{number}").st_ino for number in range(4)}
-    trial.budget = Budget(seconds=0.05)
-    with mock.patch.object(os, "scandir", slowly(slow, 0.03)):
+    trial.budget = Budget(seconds=5.0)
+    clock = Clock()
+    with (
+        mock.patch.object(names_of, "time", clock),
+        mock.patch.object(os, "scandir", slowly(slow, clock)),
+    ):
         trial.turn()
     paths = trial.paths(BOB)
     trial.check(len([one for one in paths if one.startswith("ann/")]) == 10, "another's are seen")
@@ -394,13 +398,24 @@ def seconds(trial: Trial) -> None:
     trial.check(report.texts == 0, f"{report.texts} texts were sent again")
 
 
-def slowly(folders: set[int], by: float) -> Callable[[int], Any]:
-    """Has some directories read slowly."""
+class Clock:
+    """A clock that goes on only where it is told to."""
+
+    def __init__(self) -> None:
+        self.now = 0.0
+
+    def monotonic(self) -> float:
+        """Seconds."""
+        return self.now
+
+
+def slowly(folders: set[int], clock: Clock) -> Callable[[int], Any]:
+    """Has some directories take two seconds each."""
     real = os.scandir
 
     def listing(descriptor: int) -> Any:
         if os.fstat(descriptor).st_ino in folders:
-            time.sleep(by)
+            clock.now += 2.0
         return real(descriptor)
 
     return listing
