@@ -306,8 +306,8 @@ def crowded(field: Field) -> None:
 
 
 def restless(field: Field) -> None:
-    """Directories and files of 36 subordinate ids, none of which ever stands still."""
-    for user in SUBORDINATES:
+    """Directories and files of twelve subordinate ids, none of which ever stands still."""
+    for user in SUBORDINATES[:12]:
         folder = field.tree / "crowd" / f"{user.number}"
         field.begin(user, partial(touch_all, folder))
 
@@ -421,7 +421,7 @@ ATTACKS = (
     Attack("lockstep", "slow queries of six accounts", big_texts, lockstep),
     Attack("dying", "queries in which the program ends", nothing, dying, only_stand_in=True),
     Attack("large", "large files, new texts and modes", nothing, large),
-    Attack("restless", "files of 36 subordinate ids change all the while", crowded, restless),
+    Attack("restless", "files of twelve subordinate ids change all the while", crowded, restless),
     Attack("depth", f"{EMPTY} empty directories {DEPTH} deep", nothing, depth),
     Attack("touching", "a shared directory is touched in a loop", shared_directory, touching),
     Attack("links", f"{LINKS} hard links that come and go", nothing, links),

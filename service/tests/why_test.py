@@ -112,8 +112,8 @@ def fill(place: Place) -> None:
     os.link(tree / "shut" / "file", tree / "other" / "second")
     write(tree / "large", 0o644)
     (tree / "large").write_bytes(b"apple " * 3_000_000)
-    place.mirror("--exclude", "*.o", "--exclude", "*/marked/*", "--exclude", "*.key")
     (tree / "marked" / ".nowumpus").touch()
+    place.mirror("--exclude", "*.o", "--exclude", "*.key")
     (tree / "later").chmod(0o644)
     (tree / "earlier").chmod(0o600)
 
@@ -147,7 +147,7 @@ UNTOLD = (
 
 def reasons(place: Place, score: Score) -> None:
     """What is told of each file, and the exit status."""
-    place.set("--exclude *.o --exclude '*/marked/*'")
+    place.set("--exclude *.o")
     place.tell({}, {})
     for name, due in TOLD:
         status, out, told = place.why(place.tree / name)

@@ -9,6 +9,7 @@ from enum import Enum
 
 from ..mirror.access import Access, BadList
 from ..mirror.mounts import Mounts
+from ..mirror.names import DECLINES
 from ..mirror.nodes import Rights
 from .users import User
 
@@ -40,9 +41,6 @@ class Step:
     changed: int = 0  # nanoseconds
     size: int = 0
     is_marked: bool = False  # a directory that a file `.nowumpus` of its owner or root leaves out
-
-
-MARK = b".nowumpus"
 
 
 def steps_to(path: bytes, access: Access) -> list[Step]:
@@ -108,7 +106,7 @@ def _step_at(descriptor: int, path: bytes, access: Access) -> Step:
 
 def _is_marked(descriptor: int, owner: int) -> bool:
     try:
-        status = os.stat(MARK, dir_fd=descriptor, follow_symlinks=False)
+        status = os.stat(DECLINES, dir_fd=descriptor, follow_symlinks=False)
     except OSError:
         return False
     return status.st_uid in (0, owner)

@@ -179,12 +179,12 @@ class _Reasons:
             yield f"a file system of kind {step.fault} is mounted there, which isn't walked"
         elif step.kind is Kind.OTHER:
             yield f"it is {step.kind.value}"
-        marked = [one for one in self.steps if one.is_marked and _is_below(path, one.path)]
-        if marked:
-            yield f"there is a .nowumpus in {os.fsdecode(marked[0].path)}"
-        for one in mirror.left_out if mirror is not None else []:
-            if name == one.path or name.startswith(one.path.rstrip("/") + "/"):
-                yield f"it is left out: {one.path}: {one.why}"
+        for one in self.steps:
+            if one.is_marked and _is_below(path, one.path) and self._is_in_root(one.path):
+                yield f"there is a .nowumpus in {os.fsdecode(one.path)}"
+        for left in mirror.left_out if mirror is not None else []:
+            if name == left.path or name.startswith(left.path.rstrip("/") + "/"):
+                yield f"it is left out: {left.path}: {left.why}"
         for shut in mirror.shut if mirror is not None else []:
             if name == shut.path:
                 yield _sentence(shut.why)
@@ -194,6 +194,10 @@ class _Reasons:
             ago = time.time() - walk.began
             yield f"it is newer than the last walk, which began {ago:.0f} s ago"
         yield "the mirror hasn't got it: its options may leave it out, or its last turn failed"
+
+    def _is_in_root(self, path: bytes) -> bool:
+        """Whether a path is in a root, or it isn't known which roots there are."""
+        return self.told.wanted is None or self.told.wanted.root_of(path) is not None
 
     def _unwanted(self, path: bytes) -> Iterator[str]:
         wanted = self.told.wanted
