@@ -24,6 +24,7 @@ SERVICE_TESTS := \
 	fair \
 	allow \
 	neighbours \
+	attack \
 	kernel \
 	race \
 	bounds \
