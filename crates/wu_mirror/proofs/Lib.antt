@@ -1,0 +1,11 @@
+pub mod ViewGrowth
+pub mod RightsLess
+pub mod Lookups
+pub mod Parts
+pub mod TakingRights
+pub mod Taking
+pub mod Removing
+pub mod Coming
+pub mod Giving
+pub mod Gone
+pub mod Whole

@@ -1,0 +1,7 @@
+use Rattle.std.proofs.Common.{◌≡◌, ◌++◌, take}
+use Rattle.std.specs.Prelude.{map}
+use Rattle.wu_mirror.specs.Plans.{set_aside}
+use Rattle.wu_mirror.proofs.names.put_set_aside.Given as goal
+
+abbrev pub invariant-loop-place : goal.invariant-loop-place
+invariant-loop-place l = l.events.items ≡ l.initial.events.items ++ map (set_aside l.ino) (take l.place-index l.places)

@@ -1,0 +1,281 @@
+//! What a batch has to keep so that it can be planned.
+use crate::batches::{Batch, CLOSED, Change, Fate, Place};
+use std::alloc::Global;
+use thiserror::Error;
+use wu_access::UserRec;
+use wu_base::{Ino, NAME_MAX, NoMemory, ROOT, Uid};
+use wu_tree::Kind;
+
+/// Why a batch can't be planned.
+#[derive(Clone, Copy, Debug, PartialEq, Eq, Error)]
+pub enum Fault {
+    /// The number is 0, or the closed directory's.
+    #[error("a number that no node of a batch has")]
+    Reserved,
+    /// The root is made, goes, is a file, or has a name.
+    #[error("the root has no name, and stays")]
+    Root,
+    /// The node is made without a name, keeps none, or goes with one.
+    #[error("a node without a name, or one that goes and keeps one")]
+    Unnamed,
+    /// A directory has more than one name, before the batch or after it.
+    #[error("a directory with two names")]
+    ManyNames,
+    /// A directory is given a text, or a node that goes.
+    #[error("a text where no file is")]
+    Text,
+    /// A name is none that a node may have, or stands in the closed directory.
+    #[error("not a file name, or in the closed directory")]
+    Name,
+    /// Another change has the same number.
+    #[error("a number twice")]
+    NumberTwice,
+    /// The name goes twice, or comes twice.
+    #[error("a name twice")]
+    NameTwice,
+    /// The directory stands before that in which it stands, or below itself.
+    #[error("a directory before the one in which it stands, or below itself")]
+    Order,
+    /// Groups change, and the root isn't among the changes.
+    #[error("groups change, and the root isn't in the batch")]
+    OpenRoot,
+    /// The user is there twice; the number is hers.
+    #[error("a user twice")]
+    UserTwice,
+}
+
+/// What is wrong in a batch, and the number of the node or user that it is wrong of.
+#[derive(Clone, Copy, Debug, PartialEq, Eq)]
+pub struct Misfit {
+    /// The node, or the user.
+    pub number: u32,
+    /// What is wrong.
+    pub fault: Fault,
+}
+
+/// What is wrong in the batch, if anything is. The one error is out of memory. The time is that of
+/// sorting numbers and names.
+pub fn find_misfit(alloc: Global, batch: &Batch) -> Result<Option<Misfit>, NoMemory> {
+    let changes = batch.changes.as_slice();
+    for change in changes {
+        if let Some(fault) = fault_in(change) {
+            return Ok(Some(fault_at(change, fault)));
+        }
+    }
+    if let Some(found) = user_misfit(alloc, batch.users.as_slice())? {
+        return Ok(Some(found));
+    }
+    if !batch.users.is_empty() && !has_root(changes) {
+        return Ok(Some(Misfit {
+            number: ROOT,
+            fault: Fault::OpenRoot,
+        }));
+    }
+    if let Some(found) = number_misfit(alloc, changes)? {
+        return Ok(Some(found));
+    }
+    name_misfit(alloc, changes)
+}
+
+fn fault_at(change: &Change, fault: Fault) -> Misfit {
+    Misfit {
+        number: change.ino,
+        fault,
+    }
+}
+
+/// Whether the root is among the changes.
+fn has_root(changes: &[Change]) -> bool {
+    changes.iter().any(|change| change.ino == ROOT)
+}
+
+/// What is wrong in one change by itself.
+fn fault_in(change: &Change) -> Option<Fault> {
+    if change.ino == 0 || change.ino == CLOSED {
+        return Some(Fault::Reserved);
+    }
+    if change.has_new_text && !may_have_text(change) {
+        return Some(Fault::Text);
+    }
+    if !are_names(change.going.as_slice()) || !are_names(change.coming.as_slice()) {
+        return Some(Fault::Name);
+    }
+    if change.ino == ROOT {
+        return fault_of_root(change);
+    }
+    fault_of_names(change)
+}
+
+/// Whether the node can be given a text: it is a file that is there after the batch.
+fn may_have_text(change: &Change) -> bool {
+    change.kind == Kind::File && !matches!(change.fate, Fate::Goes)
+}
+
+/// What is wrong in a change of the root.
+fn fault_of_root(change: &Change) -> Option<Fault> {
+    let is_sound = change.kind == Kind::Directory
+        && matches!(change.fate, Fate::Stays { .. })
+        && change.going.is_empty()
+        && change.coming.is_empty();
+    if is_sound { None } else { Some(Fault::Root) }
+}
+
+/// What is wrong in the number of names of a node other than the root.
+fn fault_of_names(change: &Change) -> Option<Fault> {
+    let (going, coming) = (change.going.len(), change.coming.len());
+    if change.kind == Kind::Directory && (going > 1 || coming > 1) {
+        return Some(Fault::ManyNames);
+    }
+    let is_named = match &change.fate {
+        Fate::Stays {
+            has_other_name: true,
+            ..
+        } => change.kind == Kind::File || going == 0 && coming == 0,
+        Fate::Stays { .. } => going > 0 && coming > 0,
+        Fate::Made { .. } => going == 0 && coming > 0,
+        Fate::Goes => going > 0 && coming == 0,
+    };
+    if is_named { None } else { Some(Fault::Unnamed) }
+}
+
+/// Whether each place has a name that a node may have, and is in another directory than the closed one.
+fn are_names(places: &[Place]) -> bool {
+    places.iter().all(|place| place.parent != CLOSED
+        && place.parent != 0
+        && is_name(place.name.as_slice()))
+}
+
+/// Whether the bytes are a name: 1 to NAME_MAX of them, none of them `/` or NUL, and neither `.` nor `..`.
+fn is_name(name: &[u8]) -> bool {
+    let is_short = !name.is_empty() && name.len() <= NAME_MAX;
+    is_short
+        && name.iter().all(|byte| *byte != b'/' && *byte != 0)
+        && name != b".".as_slice()
+        && name != b"..".as_slice()
+}
+
+/// The user that is there twice.
+fn user_misfit(alloc: Global, users: &[UserRec]) -> Result<Option<Misfit>, NoMemory> {
+    let mut numbers: Vec<Uid> = Vec::new(alloc);
+    for user in users {
+        numbers.push(user.uid)?;
+    }
+    numbers.sort()?;
+    Ok(doubled(numbers.as_slice()).map(|number| Misfit {
+        number,
+        fault: Fault::UserTwice,
+    }))
+}
+
+/// Of numbers that ascend the first that stands there twice.
+fn doubled(numbers: &[u32]) -> Option<u32> {
+    match numbers.windows(2).find(|pair| pair[0] == pair[1]) {
+        Some(pair) => pair.first().copied(),
+        None => None,
+    }
+}
+
+/// A change's number, and its place among the changes.
+type Spot = (Ino, usize);
+
+/// The number that is there twice, or the directory that stands before that in which it stands.
+fn number_misfit(alloc: Global, changes: &[Change]) -> Result<Option<Misfit>, NoMemory> {
+    let spots = spots_of(alloc, changes)?;
+    if let Some(number) = doubled_spot(spots.as_slice()) {
+        return Ok(Some(Misfit {
+            number,
+            fault: Fault::NumberTwice,
+        }));
+    }
+    for (place, change) in changes.iter().enumerate() {
+        if !is_in_order(spots.as_slice(), place, change) {
+            return Ok(Some(fault_at(change, Fault::Order)));
+        }
+    }
+    Ok(None)
+}
+
+/// The numbers of the changes with their places, by number.
+fn spots_of(alloc: Global, changes: &[Change]) -> Result<Vec<Spot>, NoMemory> {
+    let mut spots: Vec<Spot> = Vec::new(alloc);
+    for (place, change) in changes.iter().enumerate() {
+        spots.push((change.ino, place))?;
+    }
+    spots.sort()?;
+    Ok(spots)
+}
+
+fn doubled_spot(spots: &[Spot]) -> Option<Ino> {
+    match spots.windows(2).find(|pair| pair[0].0 == pair[1].0) {
+        Some(pair) => pair.first().map(|spot| spot.0),
+        None => None,
+    }
+}
+
+/// Whether the change at that place is no directory, or stands behind that of the directory in which it comes to
+/// stand, or stood where it goes, if that one is among the changes.
+fn is_in_order(spots: &[Spot], place: usize, change: &Change) -> bool {
+    let names = match change.fate {
+        Fate::Goes => change.going.as_slice(),
+        Fate::Stays { .. } | Fate::Made { .. } => change.coming.as_slice(),
+    };
+    match names {
+        [name, ..] if change.kind == Kind::Directory => match place_of(spots, name.parent) {
+            Some(above) => above < place,
+            None => true,
+        },
+        _ => true,
+    }
+}
+
+/// The place of the change of that number.
+fn place_of(spots: &[Spot], ino: Ino) -> Option<usize> {
+    let at = spots.partition_point(|spot| spot.0 < ino);
+    match spots.get(at) {
+        Some((number, place)) if *number == ino => Some(*place),
+        _ => None,
+    }
+}
+
+/// A name in a directory, and the node that it names.
+type Named<'a> = (Ino, &'a [u8], Ino);
+
+/// The node of which a name goes or comes that goes or comes twice.
+fn name_misfit(alloc: Global, changes: &[Change]) -> Result<Option<Misfit>, NoMemory> {
+    let mut going = Vec::new(alloc);
+    let mut coming = Vec::new(alloc);
+    for change in changes {
+        put_names(&mut going, change.ino, change.going.as_slice())?;
+        put_names(&mut coming, change.ino, change.coming.as_slice())?;
+    }
+    if let Some(found) = doubled_name(&mut going)? {
+        return Ok(Some(found));
+    }
+    doubled_name(&mut coming)
+}
+
+fn put_names<'a>(
+    names: &mut Vec<Named<'a>>,
+    ino: Ino,
+    places: &'a [Place],
+) -> Result<(), NoMemory> {
+    for place in places {
+        names.push((place.parent, place.name.as_slice(), ino))?;
+    }
+    Ok(())
+}
+
+/// The node that has a name that is there twice.
+fn doubled_name(names: &mut Vec<Named>) -> Result<Option<Misfit>, NoMemory> {
+    names.sort()?;
+    let pair = names
+        .windows(2)
+        .find(|pair| pair[0].0 == pair[1].0 && pair[0].1 == pair[1].1);
+    match pair {
+        Some([_, (_, _, number)]) => Ok(Some(Misfit {
+            number: *number,
+            fault: Fault::NameTwice,
+        })),
+        _ => Ok(None),
+    }
+}
