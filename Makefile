@@ -2,7 +2,7 @@
 # make test     builds without proofs, and runs all tests and examples
 # make          proves what the program needs, and builds it
 # make demo     the same, and then tries the examples
-# make install  copies the built program to PREFIX/bin
+# make install  copies the built programs to PREFIX/bin
 # make check    the gate: proves every crate, tries wrong bodies, runs all tests, programs and checks
 # make clean    removes what was proved and built
 # make no-memory  refuses each growth of memory in turn, in sessions of the built program; needs a C compiler
@@ -12,6 +12,7 @@
 PREFIX ?= /usr/local
 JOBS ?= $(shell nproc)
 WUMPUS := crates/wumpus/out/wumpus
+PLANNER := crates/wumpus_plan/out/wumpus_plan
 # What make edge and make service-test run; edge proves and builds it where none is named.
 PROGRAM ?=
 CRATES := $(shell sed -n -e '/_tests:/d' -e '/_rows:/d' -e 's/^\([a-z_0-9]*\):.*/\1/p' crates.txt)
@@ -23,7 +24,7 @@ CHAIN := wu_outside wu_job wu_parts wu_query wu_engine wumpus_run
 
 all:
 	@mkdir -p out && touch out/started
-	@$(MAKE) --no-print-directory --jobs=$(JOBS) $(CHAIN:%=out/%.proved) $(WUMPUS)
+	@$(MAKE) --no-print-directory --jobs=$(JOBS) $(CHAIN:%=out/%.proved) $(WUMPUS) $(PLANNER)
 
 try:
 	@tools/test --examples $(if $(SCRIPT),--script '$(SCRIPT)')
@@ -42,6 +43,7 @@ edge: $(if $(PROGRAM),,all)
 install: all
 	install -d $(DESTDIR)$(PREFIX)/bin
 	install -m 755 $(WUMPUS) $(DESTDIR)$(PREFIX)/bin/wumpus
+	install -m 755 $(PLANNER) $(DESTDIR)$(PREFIX)/bin/wumpus-plan
 	@$(MAKE) --no-print-directory install-service
 
 check:
@@ -64,6 +66,7 @@ endef
 $(foreach name,$(CRATES),$(eval $(call crate_rule,$(name))))
 
 $(WUMPUS): out/wumpus.proved ;
+$(PLANNER): out/wumpus_plan.proved ;
 
 # ---- documents
 
