@@ -8,6 +8,7 @@ SERVICE_SCRIPTS := $(shell grep -slI '^\#!.*python3' \
 SERVICE_TESTS := \
 	stand_in \
 	plan \
+	planner \
 	state \
 	mirror \
 	running \

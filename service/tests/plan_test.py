@@ -8,6 +8,7 @@ shown what is behind a name that is kept.
 
 import random
 import sys
+from collections.abc import Callable
 from dataclasses import dataclass, field
 
 from harness import Score, options
@@ -18,6 +19,7 @@ from wumpus.mirror.plan import Groups, Plan, plan_all  # isort: skip
 from wumpus.shared.script import unescape  # isort: skip
 
 USERS = (5, 6, 7, 8)
+Planning = Callable[[Tree, Tree, Groups, Groups], Plan]
 
 
 @dataclass
@@ -235,10 +237,12 @@ def lines_of(plan: Plan, old: Tree, new: Tree) -> list[bytes | tuple[int, bytes]
     return [*plan.head, *texts, *plan.tail]
 
 
-def round_of(draw: random.Random, model: Model, old: Tree, new: Tree, users: Groups) -> None:
+def round_of(
+    model: Model, old: Tree, new: Tree, users: Groups, planned: Planning = plan_all
+) -> None:
     """Carries out one batch, and looks at each moment of it."""
     before_users = {user: tuple(sorted(groups)) for user, groups in model.groups.items()}
-    plan = plan_all(old, new, before_users, users)
+    plan = planned(old, new, before_users, users)
     seen = [model.seen()]
     for line in lines_of(plan, old, new):
         if isinstance(line, bytes):
@@ -260,7 +264,7 @@ def round_of(draw: random.Random, model: Model, old: Tree, new: Tree, users: Gro
     assert {user: tuple(sorted(model.groups.get(user, ()))) for user in users} == users
 
 
-def history(seed: int) -> None:
+def history(seed: int, planned: Planning = plan_all) -> None:
     """Twelve batches, one after the other."""
     draw = random.Random(seed)
     model = Model({ROOT: Rights(0o755, 0, 0), CLOSED: Rights(0, 0, 0)}, {}, {})
@@ -275,7 +279,7 @@ def history(seed: int) -> None:
             new, tops = unseen(draw, tree, new)
         if not users or draw.random() < 0.2:
             users = {user: tuple(g for g in (20, 21, 22) if draw.random() < 0.5) for user in USERS}
-        round_of(draw, model, tree, new, users)
+        round_of(model, tree, new, users, planned)
         assert not shown_through(model, tops), "what is kept is shown"
         tree = new
 

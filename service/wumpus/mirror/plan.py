@@ -107,7 +107,7 @@ def set_users(old: Groups, new: Groups) -> list[bytes]:
 
 def remove(old: Tree, new: Tree, changes: Changes) -> Iterator[bytes]:
     """Removes the names that go. What has no other name goes into the closed directory."""
-    staying = _staying(new, changes)
+    staying = count_kept(new, changes)
     directories: list[int] = []
     for child, places in changes.going.items():
         if old.nodes[child].is_directory:
@@ -122,7 +122,7 @@ def remove(old: Tree, new: Tree, changes: Changes) -> Iterator[bytes]:
     yield from _remove_directories(old, new, changes, directories)
 
 
-def _staying(new: Tree, changes: Changes) -> Counter[int]:
+def count_kept(new: Tree, changes: Changes) -> Counter[int]:
     """How many of its names each file keeps of which some name goes."""
     kept: Counter[int] = Counter()
     if not any(child in new.nodes for child in changes.going):
@@ -155,7 +155,7 @@ def _remove_directories(
 
 def place(old: Tree, new: Tree, changes: Changes) -> Iterator[bytes]:
     """Makes and places what comes: directories from the highest down, then files."""
-    kept = _staying(new, changes)
+    kept = count_kept(new, changes)
     directories = [child for child in changes.coming if new.nodes[child].is_directory]
     if directories:
         depths = new.depths()
