@@ -78,11 +78,16 @@ install-service:
 		install -D -m 644 service/systemd/documents $(DESTDIR)$(SYSCONFDIR)/wumpus/documents
 
 # As root; without it, the tests that take on the ids of users say that they are skipped. Where no
-# program is built, and SERVICE_TEST_PROGRAM names none, the stand-in answers, and says so.
+# program is built, and SERVICE_TEST_PROGRAM names none, the stand-in answers, and says so. Beside
+# other work what a test measures by the clock may be late: one that fails is run once more.
 service-test:
-	@failed=0; for name in $(SERVICE_TESTS); do \
-		/usr/bin/env python3 service/tests/$${name}_test.py \
-			$(addprefix --program ,$(SERVICE_TEST_PROGRAM)) || failed=1; \
+	@failed=0; \
+	run() { \
+		/usr/bin/env python3 service/tests/$$1_test.py \
+			$(addprefix --program ,$(SERVICE_TEST_PROGRAM)); \
+	}; \
+	for name in $(SERVICE_TESTS); do \
+		run $$name || { echo "$$name: once more" && run $$name; } || failed=1; \
 	done; exit $$failed
 
 # A tool that isn't there is told, and what it checks is left out.
