@@ -64,7 +64,8 @@ class Pending:
         if not paths:
             return
         for person, queue in self.queues.items():
-            self.queues[person] = deque(sorted(queue, key=lambda place: not _is_below(place, paths)))
+            first = sorted(queue, key=lambda place: not _is_below(place, paths))
+            self.queues[person] = deque(first)
         self.turns = deque(
             sorted(self.turns, key=lambda person: not _is_below(self.queues[person][0], paths))
         )

@@ -3,7 +3,7 @@
 The control socket of the service takes lines with TABs between their fields, and answers each with
 one: `ask LINE` passes a line to the program and answers `reply LINE`; `batch DUE`, which brings a
 file, feeds it whole; `reset` moves the store aside; `fed MOMENT` tells when the walk began whose
-names and rights the program has whole; `done` tells that all that there is was fed once. `ok` is the
+names and rights the program has; `done` tells that all that there is was fed once. `ok` is the
 answer to the last four, or `failed WHY`.
 """
 

@@ -1,4 +1,4 @@
-"""Why something is shut, or left out: the words of the status file, and the sentences of warnings."""
+"""Why something is shut, or left out: words of the status file, and sentences of warnings."""
 
 from enum import Enum
 

@@ -26,7 +26,7 @@ class Room:
                 self.stored[person_of(node.rights.owner)] += node.size
 
     def is_exceeded(self, before: Node, owner: int, size: int) -> bool:
-        """Whether a text of this size, in the place of the one before, is more than she may have."""
+        """Whether a text of this size, in place of the one before, is more than she may have."""
         if owner == 0:
             return False
         person = self.person_of(owner)

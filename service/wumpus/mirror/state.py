@@ -2,8 +2,8 @@
 
 The file `mirror.state` has one JSON value a line: first the whole state, in a line of its own and
 one for each directory, or several where it has many names, and then one line for each later batch
-in which no name changed, with the nodes that it changed. A whole state that is about to be fed stands
-in `mirror.next` first. Both are written before their batch is fed: which of them is true, the
+in which no name changed, with the nodes that it changed. A whole state that is about to be fed
+stands in `mirror.next` first. Both are written before their batch is fed: which of them is true, the
 program tells, since each batch has a serial of its own, the name of a directory in the closed one.
 """
 

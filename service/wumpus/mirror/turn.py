@@ -187,7 +187,7 @@ class Mirror:
         return target
 
     def _waiting(self, wish: Wish) -> Container[int]:
-        """The files that waited for a look before this walk; all, where groups give other rights."""
+        """The files that waited before this walk; all, where groups give other rights."""
         return self.pending.since if wish.users == self.state.users else range(NUMBER_MAX + 1)
 
     def _seen(self, count: int) -> None:

@@ -304,7 +304,8 @@ class Walk:
         if self.systems.is_walked(step, visit.name, status.st_dev):
             return True
         number = self._known_at(step.directory, visit.name)
-        if number and not self.force and device_of(self.old.nodes[number].identity) != status.st_dev:
+        hidden = number and device_of(self.old.nodes[number].identity) != status.st_dev
+        if hidden and not self.force:
             self._keep(visit, Reason.COVERED)
         return False
 
