@@ -41,11 +41,11 @@ def deep(levels: int, data: bytes) -> bytes:
 
 
 def zeros_of_zip() -> bytes:
-    """A docx of 700 KB with 700 MB of blanks."""
-    packer = zlib.compressobj(9, zlib.DEFLATED, -15)
-    packed = b"".join(packer.compress(b" " * (1 << 20)) for _ in range(700)) + packer.flush()
+    """A small docx with 300 MB of blanks."""
+    packer = zlib.compressobj(1, zlib.DEFLATED, -15)
+    packed = b"".join(packer.compress(b" " * (1 << 20)) for _ in range(300)) + packer.flush()
     name = b"word/document.xml"
-    sizes = struct.pack("<III", 0, len(packed), 700 << 20)
+    sizes = struct.pack("<III", 0, len(packed), 300 << 20)
     local = b"PK\3\4" + struct.pack("<HHHHH", 20, 0, 8, 0, 33) + sizes
     local += struct.pack("<HH", len(name), 0) + name
     central = b"PK\1\2" + struct.pack("<HHHHHH", 20, 20, 0, 8, 0, 33) + sizes
@@ -116,10 +116,10 @@ def nested_mail(levels: int) -> bytes:
 def bombs() -> Iterator[tuple[str, bytes]]:
     """Names and documents."""
     blanks = b"W " * (1 << 20)
-    yield "blanks.gz", gzip.compress(blanks * 30, mtime=0)
-    yield "blanks.xz", lzma.compress(blanks * 30)
-    yield "blanks.bz2", bz2.compress(blanks * 30)
-    yield "zeros.gz", gzip.compress(bytes(200 << 20), mtime=0)
+    yield "blanks.gz", gzip.compress(blanks * 10, 1, mtime=0)
+    yield "blanks.xz", lzma.compress(blanks * 10, preset=0)
+    yield "blanks.bz2", bz2.compress(blanks * 3)
+    yield "zeros.gz", gzip.compress(bytes(80 << 20), 1, mtime=0)
     yield "window.xz", lzma.compress(
         b"W", filters=[{"id": lzma.FILTER_LZMA2, "dict_size": 1536 << 20}]
     )
@@ -133,9 +133,9 @@ def bombs() -> Iterator[tuple[str, bytes]]:
     yield "laughs.docx", office(laughs())
     outside = b'<!DOCTYPE d [<!ENTITY e SYSTEM "file:///etc/passwd">]><t>&e;</t>'
     yield "outside.docx", office(outside)
-    yield "attribute.docx", office(b'<d a="%s"><p><t>W</t></p></d>' % (b" " * (60 << 20)))
+    yield "attribute.docx", office(b'<d a="%s"><p><t>W</t></p></d>' % (b" " * (20 << 20)))
     yield "deep.docx", office(b"<p>" * 500_000)
-    yield "elements.docx", office(b"<d>" + b"<p><t>W</t></p>" * 2_000_000 + b"</d>")
+    yield "elements.docx", office(b"<d>" + b"<p><t>W</t></p>" * 1_000_000 + b"</d>")
     yield "entries.docx", zipped(*((f"{number}", b"") for number in range(20_001)))
     yield "paths.docx", zipped(("../../../../tmp/wumpus-deed", b"W"), ("/etc/passwd", b"W"))
     yield "cells.xlsx", many_cells()
@@ -155,7 +155,7 @@ def bombs() -> Iterator[tuple[str, bytes]]:
     yield "declared.html", b'<meta charset="idna">W\xff'
     yield "heads.mbox", b"From a b 00:00 2000\n\n" * 100_000
     yield "parts.eml", mail_of(500, deep(1, b"W\n"))
-    yield "bombs.eml", mail_of(60, gzip.compress(bytes(20 << 20), mtime=0))
+    yield "bombs.eml", mail_of(60, gzip.compress(bytes(20 << 20), 1, mtime=0))
     yield "nested.eml", nested_mail(5000)
     yield "charset.eml", b"Content-Type: text/plain; charset=idna\n\nW\xff\n"
     yield "words.eml", b"Subject: " + b"=?utf-8?q?" * 100_000 + b"\n\nW\n"

@@ -10,6 +10,7 @@ from pathlib import Path
 
 from harness import SERVICE
 
+from wumpus.extract import system  # isort: skip
 from wumpus.extract.client import Extractor  # isort: skip
 from wumpus.extract.documents import Document  # isort: skip
 from wumpus.extract.kinds import Table, table_of, BUILT_IN  # isort: skip
@@ -48,6 +49,7 @@ class Extracting:
             os.setgroups([])
             os.setresgid(EXTRACT, EXTRACT, EXTRACT)
             os.setresuid(EXTRACT, EXTRACT, EXTRACT)
+            system.die_with_parent(signal.SIGKILL)
             told = {"LISTEN_PID": str(os.getpid()), "LISTEN_FDS": "1"}
             os.execve(PROGRAM, [PROGRAM, *self.words], os.environ | told)
         os.close(errors)

@@ -49,7 +49,7 @@ def hostile_clients(extracting: Extracting, score: Score) -> None:
     """What isn't a request parts with its client alone, and nothing is begun for it."""
     for what, packet, descriptors in _bad_requests():
         with socket.socket(socket.AF_UNIX, socket.SOCK_SEQPACKET) as client:
-            client.settimeout(5)
+            client.settimeout(60)
             client.connect(str(extracting.path))
             client.recv(1 << 14)
             socket.send_fds(client, [packet], descriptors)
