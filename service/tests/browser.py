@@ -108,7 +108,7 @@ class Browser:
             raise RuntimeError(f"{expression}: {told['exceptionDetails']}")
         return told["result"].get("value")
 
-    def wait(self, expression: str, seconds: float = 10.0) -> bool:
+    def wait(self, expression: str, seconds: float = SECONDS) -> bool:
         """Waits until an expression holds: whether it did."""
         until = time.monotonic() + seconds
         while time.monotonic() < until:
