@@ -164,7 +164,7 @@ def of_reports(served: Served, score: Score) -> None:
         heard.settimeout(0.5)
         about = {"NOTIFY_SOCKET": f"{name}/notify", "WATCHDOG_USEC": "1000000"}
         with mock.patch.dict(os.environ, about):
-            start_over(served, "--stale", "6")
+            start_over(served, "--stale", "15")
             hand = begin(served)
         told = hear(heard, lambda found: b"STATUS=answering" in found, 10)
         due = {b"READY=1", b"WATCHDOG=1", b"STATUS=answering"}
@@ -174,6 +174,7 @@ def of_reports(served: Served, score: Score) -> None:
         served.ask(ANN, COUNT)
         served.ask(ANN, b"save")
         hand.feed(b"nothing")
+        hand.told(b"ask\tstat")  # the program began again
         status = status_of(served)
         due_keys = {"format", "written", "started", "fed_age", "stale", "ready", "program",
                     "queries", "connections", "waiting", "slow", "batches"}  # fmt: skip
@@ -181,12 +182,13 @@ def of_reports(served: Served, score: Score) -> None:
         score.check(status["batches"] == {"fed": 1, "failed": 1}, f"{status['batches']}")
         score.check(status["queries"]["answered"] == 1, f"{status['queries']}")
         score.check(status["queries"]["refused"].get("notquery") == 1, f"{status['queries']}")
-        score.check(status["program"]["memory"] > 0 and status["program"]["starts"] == 2, "")
+        score.check(status["program"]["memory"] > 0, f"{status['program']}")
+        score.check(status["program"]["starts"] == 2, f"{status['program']}")
         score.check(len(status["program"]["why"]) == 1, f"{status['program']}")
         score.check(status["ready"] and not status["stale"] and status["fed_age"] < 60, f"{status}")
         path = served.store / "service.status"
         score.check(path.stat().st_mode & 0o777 == 0o600, "its mode")
-        told = hear(heard, lambda found: any(b"too long ago" in one for one in found), 15)
+        told = hear(heard, lambda found: any(b"too long ago" in one for one in found), 40)
         score.check(any(b"too long ago" in one for one in told), f"stale: {told}")
         score.check(status_of(served)["stale"] is True, "the file says so, too")
         planted = served.store / "service.status.new"

@@ -282,11 +282,12 @@ def beside(user: User, what: Callable[[], bytes]) -> tuple[int, int]:
     reading, writing = os.pipe()
     child = os.fork()
     if child == 0:
-        with suppress(OSError):
+        try:
             become(user)
             with open(writing, "wb") as out:
                 out.write(what())
-        os._exit(0)
+        finally:
+            os._exit(0)
     os.close(writing)
     return child, reading
 
@@ -499,13 +500,13 @@ def of_service(served: Served, score: Score, log: Path) -> None:
     subordinate.write_text(f"{EVE}:{FIRST_OF_EVE}:{NUMBERS}\n")
     words = ["--subuid", str(subordinate), "--idle-seconds", "60", "--query-seconds"]
     parts: list[tuple[Callable[[], None], list[str]]] = [
-        (lambda: by_person(served, score), ["5"]),
-        (lambda: by_time(served, score), ["5"]),
-        (lambda: beside_floods(served, score), ["5", "--connections", "40"]),
-        (lambda: of_kills(served, score), ["1"]),
-        (lambda: of_ends(served, score), ["5"]),
-        (lambda: of_age(served, score), ["10", "--age-seconds", "2"]),
-        (lambda: of_merges(served, score, log), ["5"]),
+        (lambda: by_person(served, score), ["60"]),
+        (lambda: by_time(served, score), ["60"]),
+        (lambda: beside_floods(served, score), ["60", "--connections", "40"]),
+        (lambda: of_kills(served, score), ["2"]),
+        (lambda: of_ends(served, score), ["60"]),
+        (lambda: of_age(served, score), ["60", "--age-seconds", "2"]),
+        (lambda: of_merges(served, score, log), ["60"]),
     ]
     for part, more in parts:
         if part is parts[-1][0]:
