@@ -98,34 +98,35 @@ class Clients:
         self.of_person: collections.Counter[int] = collections.Counter()
         self.refused: collections.Counter[str] = collections.Counter()  # by the word
         self.answered = 0
-        self.accepting = Accepting(listening, selector, self._take, self._spare)
+        self.accepting = Accepting(listening, selector, self._refusal_of, self._take, self._spare)
 
-    def _take(self, connection: socket.socket, peer: Peer) -> None:
-        person = self.person(peer.user)
-        refusal = self._refusal_of_peer(peer, person)
-        if not refusal and len(self.all) >= self.bounds.connections:
+    def _refusal_of(self, user: int) -> bytes | None:
+        """Why nothing is answered on a new connection of a user; None where something is."""
+        person = self.person(user)
+        refusal = None
+        if user == NOBODY:
+            refusal = queries.NOBODY
+        elif not self.allowed.allows(user):
+            refusal = queries.NOT_ALLOWED
+        elif self.of_person[person] >= self.bounds.connections_of_user:
+            refusal = queries.TOO_MANY
+        elif len(self.all) >= self.bounds.connections:
             self._make_room(person)
             if len(self.all) >= self.bounds.connections:
                 refusal = queries.TOO_MANY
+        if refusal is not None:
+            self._count(refusal)
+        return refusal
+
+    def _take(self, connection: socket.socket, peer: Peer) -> None:
+        person = self.person(peer.user)
         client = Client(connection, peer, person, moment(), time.monotonic())
         self.all[connection.fileno()] = client
         self.of_person[person] += 1
-        if refusal:
-            client.ending = True
-            self._say(client, refusal)
-        self._go_on(client)
-
-    def _refusal_of_peer(self, peer: Peer, person: int) -> bytes:
-        """Why nothing is answered on a new connection; empty where something is."""
-        if peer.user == NOBODY:
-            return queries.NOBODY
-        if not self.allowed.allows(peer.user):
-            return queries.NOT_ALLOWED
         if spell_user(peer.user, peer.groups) is None:
-            return queries.MANY_GROUPS
-        if self.of_person[person] >= self.bounds.connections_of_user:
-            return queries.TOO_MANY
-        return b""
+            client.ending = True
+            self._say(client, queries.MANY_GROUPS)
+        self._go_on(client)
 
     def _make_room(self, person: int) -> None:
         """Ends a connection of who has most of them, for one more of a person who has fewer."""

@@ -68,12 +68,13 @@ class Controls:
         self.owners = owners
         self.log = log
         self.all: dict[int, Control] = {}
-        self.accepting = Accepting(listening, selector, self._take, lambda: None)
+        self.accepting = Accepting(listening, selector, self._refusal, self._take, lambda: None)
 
-    def _take(self, connection: socket.socket, peer: Peer) -> None:
-        if peer.user not in self.owners or len(self.all) >= AT_MOST:
-            connection.close()
-            return
+    def _refusal(self, user: int) -> bytes | None:
+        """Who isn't a mirror is told nothing."""
+        return b"" if user not in self.owners or len(self.all) >= AT_MOST else None
+
+    def _take(self, connection: socket.socket, _peer: Peer) -> None:
         self.all[connection.fileno()] = Control(connection)
         self.selector.register(connection, selectors.EVENT_READ, self._ready)
 

@@ -24,11 +24,21 @@ class Peer:
     groups: tuple[int, ...]
 
 
+def user_of(connection: socket.socket) -> int:
+    """The user who connected, which costs far less than her groups. Raises `OSError`."""
+    return _credentials_of(connection)[1]
+
+
 def peer_of(connection: socket.socket) -> Peer:
     """Who connected. Raises `OSError` where the kernel doesn't tell."""
+    process, user, group = _credentials_of(connection)
+    return Peer(process, user, tuple(sorted({group, *_groups_of(connection)})))
+
+
+def _credentials_of(connection: socket.socket) -> tuple[int, int, int]:
     told = connection.getsockopt(socket.SOL_SOCKET, socket.SO_PEERCRED, 12)
     process, user, group = struct.unpack("iII", told)
-    return Peer(process, user, tuple(sorted({group, *_groups_of(connection)})))
+    return process, user, group
 
 
 def _groups_of(connection: socket.socket) -> list[int]:
