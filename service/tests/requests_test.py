@@ -193,6 +193,12 @@ def failures(served: Served, score: Score) -> None:
     score.check(not wrong, f"a batch that fails, and its walk: {told}")
     told = [served.ask(ANN, COUNT)]
     score.check(told == [SEEN], f"what was saved stays: {told}")
+    for _ in range(20):
+        score.check(hand.feed(b"chmod\t9\t644") == b"ok", "a batch between")
+        hand.put([b"chmod\t9\t000", b"chmod\t77\t000"])
+        told = [hand.hear(), hand.told(b"ask\tcount\\t1000\\t\"apple\"")]
+        kept = told[1] == b"reply\tcount\\t1\\t1"
+        score.check(kept, f"the program didn't save what isn't whole: {told}")
     time.sleep(STALE_SECONDS + 0.5)
     told = [served.ask(ANN, COUNT)]
     score.check(told == [STALE], f"and its claim stays where it was: {told}")

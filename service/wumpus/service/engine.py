@@ -193,6 +193,9 @@ class Engine:
                     return
         except (Ended, BadReply) as error:
             self._failed(error)
+            return
+        if self.task is not None and not program.waiting:
+            self._write(program)  # what was held back until these lines came
 
     def _take(self, program: Program, line: bytes) -> None:
         """Takes one line of a reply; the last one ends the task. Raises `BadReply`."""

@@ -11,7 +11,7 @@ from collections.abc import Callable
 from dataclasses import dataclass
 from enum import Enum
 
-from ..shared.program import PIECE
+from ..shared.program import Pieces
 from ..shared.script import BadReply, lines_after
 
 
@@ -148,21 +148,19 @@ class Fed(Task):
 
     def __init__(self, file: int, due: int, ends: Callable[[Failure | None, float], None]) -> None:
         self.file = file
-        self.place = 0
         self.due = due
         self.ends = ends
         if not stat.S_ISREG(os.fstat(file).st_mode):
             self._close()
             raise NoFile("a batch is to be a file")
+        self.pieces = Pieces(file)
 
     def more(self) -> bytes:
         """The next piece of the file. Raises `BadReply` where it can't be read."""
         try:
-            piece = os.pread(self.file, PIECE, self.place)
+            return self.pieces.next(self.due)
         except OSError as error:
             raise BadReply(f"a batch can't be read: {error}") from error
-        self.place += len(piece)
-        return piece
 
     def line(self, line: bytes) -> bool:
         """Takes the reply to one line."""

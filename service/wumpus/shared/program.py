@@ -17,6 +17,7 @@ from typing import IO
 from .script import lines_after
 
 PIECE = 1 << 16
+SAVE = b"save\n"
 NO_MEMORY = 4  # the program's own status
 END_SECONDS = 0.5  # from the end of its output to its own
 _PARENT_DEATH = 1  # PR_SET_PDEATHSIG
@@ -165,6 +166,27 @@ def _descriptor(pipe: IO[bytes] | None) -> int:
     return pipe.fileno()
 
 
+class Pieces:
+    """A batch in a file, piece by piece. A save in its last line is held back to the end.
+
+    The program reads ahead: where a line in the midst is refused it might save, and be killed then.
+    """
+
+    def __init__(self, file: int) -> None:
+        self.file = file
+        self.place = 0
+        self.size = os.fstat(file).st_size
+        held = os.pread(file, len(SAVE), max(0, self.size - len(SAVE)))
+        self.held = len(SAVE) if held == SAVE else 0
+
+    def next(self, due: int) -> bytes:
+        """The next piece, while so many replies are due. Raises `OSError`."""
+        end = self.size - (self.held if due > 1 else 0)
+        piece = os.pread(self.file, min(PIECE, max(0, end - self.place)), self.place)
+        self.place += len(piece)
+        return piece
+
+
 class Talk:
     """Sends to a program and waits for its replies, for a mirror without a service."""
 
@@ -192,19 +214,17 @@ class Talk:
     def feed(self, batch: IO[bytes], due: int) -> None:
         """Sends a batch. Raises `Refused` at the first reply that isn't `ok`, and `Ended`."""
         answered = 0
-        begun = True
+        pieces = Pieces(batch.fileno())
         while answered < due:
-            if begun and not self.program.waiting:
-                piece = batch.read(PIECE)
-                begun = bool(piece)
-                self.program.send(piece)
+            if not self.program.waiting:
+                self.program.send(pieces.next(due - answered))
             self._turn()
             while self.lines:
                 answered += 1
                 reply = self.lines.popleft()
                 if reply != b"ok":
                     raise Refused(f"line {answered} of the batch: {reply[:200]!r}")
-        if self.lines or self.program.waiting or batch.read(1):
+        if self.lines or self.program.waiting or pieces.next(0):
             raise Refused("the batch has more lines than replies")
 
     def _turn(self) -> None:
