@@ -3,6 +3,7 @@
 import socket
 from collections.abc import Iterator, Sequence
 from contextlib import suppress
+from itertools import islice
 from pathlib import Path
 
 from ..shared.queries import QUERY_MAX
@@ -104,17 +105,18 @@ class Asking:
 
     def _reply(self) -> Reply:
         try:
-            first = self._line()
-            lines = [first, *(self._line() for _ in range(lines_after(first)))]
+            lines = self._lines(1)
+            lines += self._lines(lines_after(lines[0]))
         except (OSError, BadReply) as error:
             raise Trouble(f"the service: {error}") from error
         return [_fields_of(line) for line in lines]
 
-    def _line(self) -> bytes:
-        line = self.answers.readline()
-        if not line.endswith(b"\n"):
+    def _lines(self, count: int) -> list[bytes]:
+        """So many lines of replies, without their LFs."""
+        lines = list(islice(self.answers, count))
+        if len(lines) < count or not all(line.endswith(b"\n") for line in lines[-1:]):
             raise Trouble("the service ended the connection")
-        return line[:-1]
+        return [line[:-1] for line in lines]
 
 
 def _fields_of(line: bytes) -> list[bytes]:

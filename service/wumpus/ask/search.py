@@ -11,7 +11,6 @@ What isn't exact is said in `notes`.
 
 from collections.abc import Iterator, Sequence
 from dataclasses import dataclass, field, replace
-from itertools import islice
 
 from ..shared.script import SHOWN_MAX
 from ..shared.words import WORDS_OF_RANKING, word_of
@@ -20,7 +19,7 @@ from .expression import WINDOW_MAX, Expression, Joined, Operator, Scope, TooLong
 from .forms import Forms, Typed, typed_in
 from .paths import Condition, once_each, passing
 from .translation import Translation
-from .tree import And, Line, Not, Or, Phrase, Question, Row, Tree, Unit
+from .tree import And, Line, Near, Not, Or, Phrase, Prefix, Question, Row, Tree, Unit
 
 TOO_LARGE = b"toolargereply"
 
@@ -32,7 +31,6 @@ class Bounds:
     shown: int = SHOWN_MAX  # results of a reply
     first: int = 200  # of a ranking, before all of it is asked for
     parts: int = 64  # by length
-    counts: int = 512  # of parts, to find such as fit
 
 
 @dataclass(frozen=True)
@@ -52,12 +50,22 @@ class Meant:
     def words(self) -> list[bytes]:
         """The words of the ranking: those that are wanted. Raises `TooLong`."""
         texts = self.question.texts
-        typed = [] if texts is None else wanted_in(texts, True)
-        forms = (form for word in typed for form in self.forms.of(word))
-        words = list({word_of(form): form for form in forms}.values())
+        words = self._forms([] if texts is None else wanted_in(texts, True))
         if len(words) > WORDS_OF_RANKING:
             raise TooLong(f"it ranks by {len(words)} words of at most {WORDS_OF_RANKING}")
         return words
+
+    def needed(self) -> list[bytes]:
+        """Words of which each file has one for which the question holds; none where it needs none.
+
+        They are among those of the ranking, and often fewer and rarer.
+        """
+        texts = self.question.texts
+        return [] if texts is None else self._forms(needed_words(texts, True) or [])
+
+    def _forms(self, typed: Sequence[Typed]) -> list[bytes]:
+        forms = (form for word in typed for form in self.forms.of(word))
+        return list({word_of(form): form for form in forms}.values())
 
 
 def wanted_in(tree: Tree[Unit], is_wanted: bool) -> list[Typed]:
@@ -71,19 +79,36 @@ def wanted_in(tree: Tree[Unit], is_wanted: bool) -> list[Typed]:
     return list(typed_in(tree)) if is_wanted else []
 
 
-def has_word_where(tree: Tree[Unit], holds: bool) -> bool:
-    """Whether a file has one of the wanted words wherever the tree holds, or doesn't hold."""
+def needed_words(tree: Tree[Unit], holds: bool) -> list[Typed] | None:
+    """Words of which each file has one for which the tree holds, or doesn't hold; None for none.
+
+    Of several choices it is the one of few words, and of long ones, which are rare.
+    """
     if isinstance(tree, Not):
-        return has_word_where(tree.part, not holds)
-    if isinstance(tree, And):
-        some = (has_word_where(part, holds) for part in tree.parts)
-        return any(some) if holds else all(some)
-    if isinstance(tree, Or):
-        some = (has_word_where(part, holds) for part in tree.parts)
-        return all(some) if holds else any(some)
+        return needed_words(tree.part, not holds)
+    if isinstance(tree, (And, Or)):
+        some = [needed_words(part, holds) for part in tree.parts]
+        found = [words for words in some if words is not None]
+        if isinstance(tree, And) == holds:
+            return min(found, key=_rarity) if found else None
+        return [word for words in found for word in words] if len(found) == len(some) else None
+    if not holds:
+        return None
     if isinstance(tree, Line):
-        return holds and has_word_where(tree.query, True)
-    return holds
+        return needed_words(tree.query, True)
+    if isinstance(tree, Near):
+        return min(([_rarest(side.words) for side in unit] for unit in tree.units), key=_rarity)
+    return [_rarest(tree.words)]
+
+
+def _rarity(words: Sequence[Typed]) -> tuple[bool, int, int]:
+    """The smaller, the rarer the words are thought to be."""
+    has_prefix = any(isinstance(word, Prefix) for word in words)
+    return has_prefix, len(words), -min(len(word.text) for word in words)
+
+
+def _rarest(words: Sequence[Typed]) -> Typed:
+    return min(words, key=lambda word: _rarity([word]))
 
 
 def is_any_word(tree: Tree[Unit]) -> bool:
@@ -137,14 +162,39 @@ class Places:
 
 @dataclass(frozen=True)
 class _Members:
-    """Files by their least paths, and how many there are of all."""
+    """Files by their least paths, with their lengths in tokens, and how many there are of all."""
 
-    paths: list[bytes]
+    lengths: dict[bytes, int]
     total: int
 
     @property
+    def paths(self) -> list[bytes]:
+        return list(self.lengths)
+
+    @property
     def are_all(self) -> bool:
-        return len(self.paths) >= self.total
+        return len(self.lengths) >= self.total
+
+
+def _parts_of(members: _Members, low: int, high: int) -> Iterator[tuple[int, int]]:
+    """Ranges of lengths, each with about as many files as a reply can show; none where all are.
+
+    They are cut by the lengths of the files that are known, which are the first by path, or by
+    their scores, and so like the others.
+    """
+    if members.are_all or high - low == 1:
+        return
+    lengths = sorted(members.lengths.values()) or [low]
+    pieces = 2 + members.total // len(lengths)
+    cuts = {lengths[len(lengths) * place // pieces] for place in range(1, pieces)}
+    middle = lengths[len(lengths) // 2]  # where all are of one length it is a part of its own
+    ends = sorted(one for one in {*cuts, middle, middle + 1} if low < one < high)
+    yield from zip([low, *ends], [*ends, high])
+
+
+def _lengths_of(reply: Reply, place: int) -> dict[bytes, int]:
+    """The length of each file of a reply whose results are whole files."""
+    return {line[place]: int(line[place + 2]) + 1 for line in reply[1:]}
 
 
 @dataclass
@@ -178,12 +228,18 @@ class Search:
         if condition is None and not words:
             expression = self.meant.expression(Scope.FILE)
             reply = self._shown(b"find", number, spell(expression))
-            return Files([File(path) for path in _paths_of(reply)], Count(int(reply[0][2])))
+            return Files([File(line[0]) for line in reply[1:]], Count(int(reply[0][2])))
         return self._of_members(number, words)
 
     def _of_members(self, number: int, words: list[bytes]) -> Files:
-        """The first files, where all of them have to be known."""
-        members = self._members(self.meant.expression(Scope.FILE))
+        """The first files, where it has to be known which there are."""
+        expression = self.meant.expression(Scope.FILE)
+        members = self._listed(expression)
+        if not members.are_all:
+            first = self._first_but_others(expression, number, words)
+            if first is not None:
+                return Files(first, Count(members.total))
+            members = self._with_parts(expression, members)
         shown = self._pass(members.paths)
         is_exact = members.are_all or self.meant.condition is None
         total = Count(len(shown) if self.meant.condition else members.total, is_exact)
@@ -192,6 +248,30 @@ class Search:
                 f"{members.total} files hold it, of which {len(members.paths)} were looked at"
             )
         return Files(self._in_order(shown, number, words) if number else [], total)
+
+    def _first_but_others(
+        self, expression: Expression, number: int, words: list[bytes]
+    ) -> list[File] | None:
+        """The first files by those that aren't among them, where a reply can show all of these.
+
+        So most files need no parts. None where it can't be told so.
+        """
+        if self.meant.condition is not None or not self.meant.needed():
+            return None
+        try:
+            without = spell(Joined(Operator.HOLDS_NO, Scope.FILE, expression))
+        except TooLong:
+            return None
+        reply = self._shown(b"rank", self.bounds.shown, without, b" ".join(words))
+        if int(reply[0][1]) > len(reply) - 1:
+            return None
+        others = {file.path for file in _files_of(reply)}
+        for most in (self.bounds.first, self.bounds.shown):
+            ranking = _files_of(self._rank(most, Scope.FILE, words))
+            found = [file for file in ranking if file.path not in others]
+            if len(found) >= number:
+                return found[:number]
+        return None
 
     def _named(self, condition: Condition) -> list[bytes] | None:
         """The files whose paths pass, by path: each once. None where her paths are too many."""
@@ -222,7 +302,7 @@ class Search:
         due = min(number, len(shown))
         found: list[File] = []
         is_whole = True
-        for most in (self.bounds.first, self.bounds.shown) if words else ():
+        for most in (self.bounds.first, self.bounds.shown) if words and due else ():
             reply = self._rank(most, Scope.FILE, words)
             is_whole = int(reply[0][1]) == len(reply) - 1
             found = [one for one in _files_of(reply) if one.path in shown]
@@ -237,46 +317,31 @@ class Search:
 
     # ---- members
 
-    def _members(self, expression: Expression) -> _Members:
-        """The files of an expression, in parts where a reply can't show them all."""
-        whole = self._listed(expression)
-        if whole.are_all:
-            return whole
-        found = dict.fromkeys(whole.paths)
-        try:
-            for part in islice(self._parts(expression, whole), self.bounds.parts):
-                found.update(dict.fromkeys(self._listed(part).paths))
-        except TooLong:
-            pass  # there is no room for the bounds of a part
-        return _Members(list(found), whole.total)
+    def _with_parts(self, expression: Expression, whole: _Members) -> _Members:
+        """The files of an expression of which a reply couldn't show all, in parts by length."""
+        found = dict(whole.lengths)
+        asked = 0
+        waiting = list(_parts_of(whole, 1, WINDOW_MAX + 1))
+        while waiting and asked < self.bounds.parts:
+            low, high = waiting.pop()
+            asked += 1
+            try:
+                part = self._listed(between(expression, low, high))
+            except TooLong:
+                break  # there is no room for the bounds of a part
+            found.update(part.lengths)
+            waiting += _parts_of(part, low, high)
+        return _Members(found, whole.total)
 
     def _listed(self, expression: Expression) -> _Members:
         """The files of an expression, as many as a reply can show."""
-        words = self.meant.words()
-        texts = self.meant.question.texts
+        needed = self.meant.needed()
         written = spell(expression)
-        if words and texts is not None and has_word_where(texts, True):
-            reply = self._shown(b"rank", self.bounds.shown, written, b" ".join(words))
-            return _Members(_paths_of(reply, 1), int(reply[0][1]))
+        if needed:
+            reply = self._shown(b"rank", self.bounds.shown, written, b" ".join(needed))
+            return _Members(_lengths_of(reply, 1), int(reply[0][1]))
         reply = self._shown(b"find", self.bounds.shown, written)
-        return _Members(_paths_of(reply), int(reply[0][2]))
-
-    def _parts(self, expression: Expression, whole: _Members) -> Iterator[Expression]:
-        """Parts by length, halved until as many fit into a reply as the whole one showed."""
-        room = len(whole.paths)
-        counts = 0
-        waiting = [(1, WINDOW_MAX + 1, whole.total)]
-        while waiting:
-            low, high, count = waiting.pop()
-            part = between(expression, low, high)
-            is_whole = high - low == 1 or low == WINDOW_MAX
-            if 0 < count <= room or (is_whole and count):
-                yield part
-            elif count and counts < self.bounds.counts:
-                counts += 1
-                middle = halfway(low, high)
-                fewer = self._count(between(expression, low, middle))
-                waiting += [(middle, high, count - fewer), (low, middle, fewer)]
+        return _Members(_lengths_of(reply, 0), int(reply[0][2]))
 
     def _count(self, expression: Expression) -> int:
         return int(self.asking.ask(b"count", spell(expression))[0][2])
@@ -321,14 +386,5 @@ def between(expression: Expression, low: int, high: int) -> Expression:
     return part if high > WINDOW_MAX else Joined(Operator.HOLDS_NO, part, Window(high))
 
 
-def halfway(low: int, high: int) -> int:
-    """A length between two: in the midst of their logarithms, since few files are long."""
-    return min(max(int((low * high) ** 0.5), low + 1), high - 1)
-
-
 def _files_of(ranking: Reply) -> list[File]:
     return [File(path, int(score)) for score, path, _, _ in ranking[1:]]
-
-
-def _paths_of(reply: Reply, place: int = 0) -> list[bytes]:
-    return [line[place] for line in reply[1:]]
