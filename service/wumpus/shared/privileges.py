@@ -41,8 +41,8 @@ def _checked(status: int) -> None:
 def become_owner_of(folder: Path) -> None:
     """Of a process of user 0: becomes the owner of a folder, with the right to read each file.
 
-    Of another user's process nothing changes. Raises `Failed` where the owner is a person, who would
-    be handed everybody's texts, or has no account; and `OSError`.
+    Of another user's process nothing changes. Raises `Failed` where the owner has no account, or is
+    a person, who would be handed everybody's texts; and `OSError`.
     """
     if os.geteuid() != 0:
         return
