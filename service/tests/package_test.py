@@ -93,7 +93,7 @@ def used(root: Root, score: Score) -> None:
     score.check(mirror.wait() == 0, "a turn of the mirror")
     for user in ("ann", "bob"):
         status, told = root.ask(user, "budget")
-        due = f"/home/{user}/diary\n  1: budget of {user}\n"
+        due = f"/home/{user}/diary:1:budget of {user}\n"
         score.check((status, told) == (0, due), f"{user}: {told}")
     score.check(root.ask("bob", "-c", "ann")[0] == 1, "bob isn't told of ann's diary")
     score.check(root.ask("bob", "-c", "keys")[0] == 1, "what lies beside keys isn't searched")
