@@ -79,11 +79,12 @@ install-service:
 
 # As root; without it, the tests that take on the ids of users say that they are skipped. Where no
 # program is built, and SERVICE_TEST_PROGRAM names none, the stand-in answers, and says so. Beside
-# other work what a test measures by the clock may be late: one that fails is run once more.
+# other work what a test measures by the clock may be late: one that fails is run once more. They run
+# by the interpreter of the programs: another one may lie where a service without rights can't read.
 service-test:
 	@failed=0; \
 	run() { \
-		/usr/bin/env python3 service/tests/$$1_test.py \
+		/usr/bin/python3 service/tests/$$1_test.py \
 			$(addprefix --program ,$(SERVICE_TEST_PROGRAM)); \
 	}; \
 	for name in $(SERVICE_TESTS); do \
