@@ -84,9 +84,9 @@ docs:
 rows:
 	@tools/docs --rows
 
-# make trusted  prints the files that an auditor reads, in order
+# make trusted  prints the files that an auditor reads, in order; CLAIM=WORD, what one guarantee needs
 trusted:
-	@tools/docs --trusted
+	@tools/trusted $(CLAIM)
 
 install: install-manual
 

@@ -98,7 +98,7 @@ service-check:
 		if command -v $$1 >/dev/null; then echo "$$@" && "$$@" || failed=1; \
 		else echo "service-check: $$1 is missing: $$2 .. isn't run"; fi; \
 	}; \
-	check mypy service/wumpus service/tests bench/*.py; \
+	check mypy service/wumpus service/tests bench/*.py tools/*.py; \
 	for script in $(SERVICE_SCRIPTS); do check mypy --scripts-are-modules $$script; done; \
 	check ruff check service bench tools; \
 	check mandoc -Tlint -W warning docs/wumpus.1 service/man/*; \
