@@ -1,7 +1,7 @@
 """The package in a clean root: installed, used by a user, removed and purged.
 
     debootstrap --variant=minbase --include=python3 bookworm ROOT
-    python3 package_test.py --root ROOT --package out/wumpus_1.0_amd64.deb
+    python3 package_test.py --root ROOT --package out/wumpus_1.0.0_amd64.deb
 
 The services are run as their units have them, with the same user and capabilities, but without
 systemd, which a clean root doesn't run. The root gets a `/proc` meanwhile.

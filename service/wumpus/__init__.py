@@ -5,4 +5,4 @@ given, for the user whom a query names; that the events are true of the real fil
 the asker is who she says, is left to these programs, and shown by tests against the kernel alone.
 """
 
-VERSION = "1.0"
+VERSION = "1.0.0"
