@@ -7,7 +7,7 @@ from pathlib import Path
 
 from clauses import Clause, Closure, clauses_in, closure_of, places_of
 from crates import crates
-from definitions import CRATES, TOP, source_of, text_of
+from definitions import CRATES, TOP, in_module, source_of, text_of
 from documents import CODE, Report, cells_of, where
 
 PROVED = TOP / "docs" / "PROVED.md"
@@ -106,6 +106,20 @@ def check_trusted(report: Report) -> None:
         for path in united(clauses).by_file():
             found = path.suffix != ".antt" or where(path) in listed
             report.check(found, f"{where(TRUSTED)} lacks {where(path)}, which {word} needs")
+
+
+def leads_nowhere(path: Path) -> list[str]:
+    """The words that a file imports and that aren't found, so that a closure would lack them."""
+    imports = source_of(path).imports.values()
+    own = [(it, name) for it, name in imports if (CRATES / it.split(".")[1]).is_dir()]
+    kept = [(it, name) for it, name in own if re.match(r"Rattle\.\w+\.specs\.(?!contracts)", it)]
+    return [f"{module}.{name}" for module, name in kept if not in_module(module, name)]
+
+
+def check_imports(report: Report) -> None:
+    """Each definition that is imported is found: so what is computed from imports is whole."""
+    for path in [*CRATES.glob("*/specs/**/*.antt"), *CRATES.glob("*/src/**/*.rt")]:
+        report.check(not (lost := leads_nowhere(path)), f"{where(path)}: no {', '.join(lost)}")
 
 
 # ---- docs/GLOSSARY.md and the pages of the crates
