@@ -6,8 +6,9 @@ import re
 from dataclasses import dataclass
 from pathlib import Path
 
-from definitions import CRATES, TOP, owner_of, text_of
-from documents import cells_of
+from clauses import Clause, places_of
+from definitions import CRATES, TOP, code_of, owner_of, text_of
+from documents import CODE, Report, cells_of, where
 
 PAGE = TOP / "docs" / "WRONG_BODIES.md"
 HEAD = "| The body | Function | Clause | Tried |"
@@ -88,3 +89,35 @@ def with_edits(text: str) -> str:
         rows = [edit.row("") for edit in left]
         out += ["", f"## {crate}", "", HEAD, "|---|---|---|---|", *rows]
     return "\n".join(out) + "\n"
+
+
+def is_function(crate: str, name: str) -> bool:
+    """Whether a crate has a function of that name, whatever stands before it."""
+    last = name.split("::")[-1]
+    return any(last in source.words for source in code_of(crate))
+
+
+def is_clause(crate: str, functions: list[str], label: str) -> bool:
+    """Whether a function, or a trait that it is of, has a clause of that label."""
+    if any(places_of(Clause(crate, name.split("::")[-1], label)) for name in functions):
+        return True
+    traits = re.compile(rf"\b(?:ghost {label}\b|ensures {label} \{{)")
+    sources = [source for source in code_of(crate) if f"ghost {label}" in text_of(source.path)]
+    return bool(sources) or any(traits.search(text_of(it.path)) for it in code_of("wu_outside"))
+
+
+def check_wrong_bodies(report: Report) -> None:
+    """The functions and clauses of the rows are there."""
+    crate = ""
+    for number, line in enumerate(text_of(PAGE).splitlines(), 1):
+        crate = line[3:] if line.startswith("## ") else crate
+        cells = cells_of(line)
+        if not line.startswith("| ") or len(cells) != 4 or cells[0] == "The body":
+            continue
+        functions = CODE.findall(cells[1].partition(" of ")[0])
+        for name in functions:
+            report.check(is_function(crate, name), f"{where(PAGE, number)}: no function {name}")
+        labels = CODE.findall(cells[2]) if re.fullmatch(r"(?:`\w+`(?:, )?)+", cells[2]) else []
+        for label in labels:
+            found = is_clause(crate, functions, label)
+            report.check(found, f"{where(PAGE, number)}: {cells[1]} has no clause {label}")
