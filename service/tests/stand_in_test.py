@@ -13,7 +13,7 @@ from pathlib import Path
 from harness import BUILT, SERVICE, STAND_IN, Pace, Score, folder_of_own, options
 
 EXAMPLES = SERVICE.parent / "examples"
-NAMES = ("home", "lists", "regions", "ranking", "find")
+NAMES = ("home", "lists", "regions", "ranking", "find", "tutorial")
 SESSIONS = ("sessions/1", "sessions/2")
 WORDS = (b"apple", b"Apple", b"pear", b"plum", "\u00c4pfel".encode(), b"\xff\xc3", b"a" * 70, b"x1")
 LEAVES = (b'"apple"', b'"pear plum"', b'"<line>"', b'"</file>"', b"line", b"file", b"[1]", b"[3]",
