@@ -489,6 +489,74 @@ def torn(trial: Trial) -> None:
     trial.check(report.texts == 0, f"{report.texts} texts were sent again")
 
 
+def unsettled(trial: Trial) -> None:
+    """Below a directory that goes on changing, and is what it was, nothing is read twice.
+
+    What was read in the window that failed is.
+    """
+    for number in range(600):
+        trial.write(f"busy/more/{number}/file", ANN)
+    listings = visits = refusals = 0
+    scandir, visit, wait_for = os.scandir, walk.Walk._visit, budget.Accounts.wait_for
+
+    def listed(descriptor: int) -> Any:
+        nonlocal listings
+        listings += 1
+        if listings == 400:
+            (trial.tree / "busy" / "more").chmod(0o755)
+        return scandir(descriptor)
+
+    def visited(self: walk.Walk, one: Any) -> Any:
+        nonlocal visits
+        visits += 1
+        return visit(self, one)
+
+    def waited(self: budget.Accounts, account: budget.Account, changed: int) -> bool:
+        nonlocal refusals
+        if refusals < 2 and 0 <= time.time_ns() - changed < budget.YOUNG:
+            refusals += 1
+            return False
+        return wait_for(self, account, changed)
+
+    time.sleep(1.1)
+    with (
+        mock.patch.object(os, "scandir", listed),
+        mock.patch.object(walk.Walk, "_visit", visited),
+        mock.patch.object(budget.Accounts, "wait_for", waited),
+        mock.patch.object(budget, "YOUNG", 10**9),
+        mock.patch.object(walk, "SECONDS_OF_WINDOW", 60.0),
+    ):
+        trial.turn()
+    trial.check(refusals == 2, "it goes on changing, at a window's end and at the next one's begin")
+    trial.check(len(trial.paths(BOB)) == 600, f"{len(trial.paths(BOB))} files of 600")
+    trial.check(600 < visits < 900, f"{visits} visits of some 600 directories")
+
+
+def taken_once(trial: Trial) -> None:
+    """What is read twice in a walk takes its owner's room once, whether it was known or not."""
+    for number in range(20):
+        trial.write(f"eve/{number}/file", EVE)
+    trial.budget = Budget(names=41, directories=21)
+    scandir, listings = os.scandir, 0
+
+    def listed(descriptor: int) -> Any:
+        nonlocal listings
+        listings += 1
+        if trial.tree.stat().st_ino == os.fstat(descriptor).st_ino:
+            listings = 0
+        if listings == 15:
+            (trial.tree / "eve").chmod(0o751 if (trial.tree / "eve").stat().st_mode & 4 else 0o755)
+        return scandir(descriptor)
+
+    for mode in (0o751, 0o755):
+        with mock.patch.object(os, "scandir", listed), mock.patch.object(walk, "WINDOW", 4):
+            trial.turn()
+        found = (trial.tree / "eve").stat().st_mode & 0o777
+        trial.check(found == mode, f"its mode, which changed once: {found:o}")
+        trial.check(trial.mirror.remarks.count == 0, f"shut: {trial.mirror.remarks.counts}")
+        trial.check(len(trial.paths(0)) == 20, f"{len(trial.paths(0))} files of 20")
+
+
 def unseen(trial: Trial) -> None:
     """An error at one name is that name's alone: it is shut, and not removed."""
     for number in range(40):
@@ -627,6 +695,7 @@ def memory(trial: Trial) -> None:
     again.begin(False)
     same = again.state.tree == trial.mirror.state.tree
     trial.check(same, "what is written is what the program has")
+    trial.check(again.state.complete, "that all was looked at once is written")
     trial.turn()
     trial.check(trial.count(BOB) == b"count\t60000\t301", f"with memory: {trial.count(BOB)!r}")
 
@@ -649,7 +718,7 @@ def patience(trial: Trial) -> None:
 
 PARTS = (
     rights_first, in_turn, young, names, directories, links, text_bytes, seconds, deep, torn,
-    unseen, gone, unmounted, memory, patience,
+    unsettled, taken_once, unseen, gone, unmounted, memory, patience,
 )  # fmt: skip
 
 

@@ -127,6 +127,32 @@ def status(place: Place, score: Score) -> None:
     (place.tree / "b").unlink()
 
 
+def starting(place: Place, score: Score, folder: Path) -> None:
+    """A mirror that waits for its program tells so; one that finds another at work tells nothing.
+
+    What is missing is told as long as it is.
+    """
+    program = folder / "hanging"
+    program.write_text("#!/bin/sh\nexec sleep 600\n")
+    program.chmod(0o755)
+    running = Running(place, "--quiet", "--program", str(program))
+    is_told = wait_for(lambda: bool(running.told()))
+    told = running.told()
+    running.end()
+    is_starting = is_told and told["state"] == "starting" and told["walk"]["began"] is None
+    score.check(is_starting, f"before the first walk: {told}")
+    running = Running(place, "--quiet", str(place.tree / "none"))
+    score.check(wait_for(running.is_waiting), f"a turn: {running.told()}")
+    other = subprocess.run(place.words("--quiet"), capture_output=True, text=True, timeout=LATER)
+    score.check(other.returncode == 2 and "another mirror" in other.stderr, f"another: {other}")
+    first = running.told()
+    wait_for(lambda: bool(running.told()["written"] > first["written"]))
+    told = running.told()
+    running.end()
+    score.check(first["state"] == told["state"] == "waiting", f"it still waits: {told}")
+    score.check("none" in (told["trouble"] or ""), f"what is missing: {told['trouble']}")
+
+
 def again(place: Place, score: Score, folder: Path) -> None:
     """A program that fails at first: the mirror tries again soon."""
     once = folder / "once"
@@ -174,6 +200,7 @@ def main() -> int:
         place = Place(Path(name), given.program)
         now(place, score)
         status(place, score)
+        starting(place, score, Path(name))
         again(place, score, Path(name))
     return score.end()
 

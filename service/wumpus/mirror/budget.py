@@ -44,11 +44,14 @@ class Account:
 
     def take_name(self, is_known: bool) -> bool:
         """Takes room for a name: whether there was room."""
-        if is_known:
-            self.known_names -= 1
-            return self.known_names >= 0
-        self.fresh_names -= 1
-        return self.fresh_names >= 0
+        if (self.known_names if is_known else self.fresh_names) <= 0:
+            return False
+        self._add(is_known, -1, 0)
+        return True
+
+    def give_name(self, is_known: bool) -> None:
+        """Gives the room of a name back."""
+        self._add(is_known, 1, 0)
 
     def has_directory(self, is_known: bool) -> bool:
         """Whether there is room for a directory and its name."""
@@ -57,11 +60,20 @@ class Account:
         return self.fresh_directories > 0 and self.fresh_names > 0
 
     def take_directory(self, is_known: bool) -> None:
-        """Takes room for a directory."""
+        """Takes room for a directory and its name."""
+        self._add(is_known, -1, -1)
+
+    def give_directory(self, is_known: bool) -> None:
+        """Gives the room of a directory and its name back."""
+        self._add(is_known, 1, 1)
+
+    def _add(self, is_known: bool, names: int, directories: int) -> None:
         if is_known:
-            self.known_directories -= 1
+            self.known_names += names
+            self.known_directories += directories
         else:
-            self.fresh_directories -= 1
+            self.fresh_names += names
+            self.fresh_directories += directories
 
 
 class Accounts:

@@ -38,10 +38,14 @@ TOLD_AGAIN = 60.0  # seconds after which the same failure is told again
 SLICE_AT_LEAST = 1.0  # seconds
 LOOKED_FOR_WANTED = 1.0  # seconds between two looks for what an administrator asks
 DESCRIPTORS = 4096
+STARTING = "starting"  # what the mirror does before its first walk
 
 
 class Unfinished(Exception):
     """A turn was fed, but something that was asked for is missing, or is held."""
+
+
+FAILURES = (Failed, BadRoot, BadState, BadUsers, Unfinished, OSError)
 
 
 def parser() -> argparse.ArgumentParser:
@@ -166,7 +170,8 @@ class Watch:
     def __init__(self, folder: Path) -> None:
         self.status = StatusFile(folder)
         self.mirror: Mirror | None = None
-        self.doing = "walking"
+        self.doing = STARTING
+        self.trouble: str | None = None
         self.last = 0.0
 
     def pulse(self) -> None:
@@ -174,13 +179,12 @@ class Watch:
         if time.monotonic() - self.last > 1.0:
             self.last = time.monotonic()
             notify(b"WATCHDOG=1")
-            self.tell(self.doing)
+            self.tell(self.doing, self.trouble)
 
     def tell(self, doing: str, trouble: str | None = None, is_due: bool = False) -> None:
-        """What the mirror does."""
-        self.doing = doing
-        if self.mirror is not None:
-            self.status.write(self.mirror, doing, trouble, is_due)
+        """What the mirror does, or that it starts. The folder is this process's alone."""
+        self.doing, self.trouble = doing, trouble
+        self.status.write(self.mirror, doing, trouble, is_due)
 
 
 class Session:
@@ -196,7 +200,17 @@ class Session:
         self.told = ""  # what was missing or held at the last turn
 
     def run(self) -> None:
-        """Raises `Failed` and others, and `Unfinished` after a single turn."""
+        """Raises the `FAILURES`: `Unfinished` after a single turn."""
+        if self.watch.doing == STARTING:
+            self.watch.tell(STARTING, is_due=True)
+        try:
+            self._run()
+        except FAILURES as error:
+            self.watch.tell("failed", plain(str(error)), is_due=True)
+            raise
+
+    def _run(self) -> None:
+        """Does it. Raises the `FAILURES`."""
         reach = reach_of(self.given, self.folder)
         is_whole = False
         try:
@@ -354,13 +368,12 @@ def run(given: argparse.Namespace) -> int:
                 want(folder, wanted)
                 return 0
             why = plain(str(error))
-        except (Failed, BadRoot, BadState, BadUsers, Unfinished, OSError) as error:
+        except FAILURES as error:
             why = plain(str(error))
         progress.clear()
         if why != told or time.monotonic() - when > TOLD_AGAIN:
             print(f"wumpus-mirror: {why}", file=sys.stderr)
             told, when = why, time.monotonic()
-        session.watch.tell("failed", why, is_due=True)
         if given.every is None:
             return 2
         time.sleep(SOON)

@@ -134,6 +134,11 @@ class Feeder:
             self._feed_addition(before, addition, plan, texts)
         apply(self.state, addition)
 
+    def save(self) -> None:
+        """Writes the whole state, in which more is known than was fed."""
+        self.files.prepare(self.state)
+        self.files.commit()
+
     def _feed_addition(self, before: str, addition: Addition, plan: Plan, texts: Texts) -> None:
         head = [*begin(before, addition.serial), *plan.head]
         tail = [*plan.tail, *end(addition.serial)]

@@ -16,7 +16,7 @@ from .nodes import Tree
 from .pending import Pending
 from .reasons import Reason
 from .remarks import Remarks
-from .turn import Mirror
+from .turn import Mirror, Walked
 
 NAME = "mirror.status"
 FORMAT = 1
@@ -44,16 +44,25 @@ class StatusFile:
         owners = names.keys() | stored.keys()
         self.owners = {one: {"names": names[one], "bytes": stored[one]} for one in owners}
 
-    def write(self, mirror: Mirror, doing: str, trouble: str | None, is_due: bool = False) -> None:
-        """Writes it, where it is time or due. What can't be written is told by its age."""
+    def write(
+        self, mirror: Mirror | None, doing: str, trouble: str | None, is_due: bool = False
+    ) -> None:
+        """Writes it, where it is time or due, also before there is a mirror.
+
+        What can't be written is told by its age.
+        """
         if not is_due and time.monotonic() - self.last < EVERY:
             return
         self.last = time.monotonic()
         with contextlib.suppress(OSError):
             write_whole(self.path, json.dumps(self._told(mirror, doing, trouble)).encode())
 
-    def _told(self, mirror: Mirror, doing: str, trouble: str | None) -> dict[str, Any]:
-        walked, pending, remarks = mirror.walked, mirror.pending, mirror.remarks
+    def _told(self, mirror: Mirror | None, doing: str, trouble: str | None) -> dict[str, Any]:
+        walked, pending, remarks = Walked(), Pending(), Remarks(lambda *_: None)
+        held: list[str] = []
+        if mirror is not None:
+            walked, pending, remarks = mirror.walked, mirror.pending, mirror.remarks
+            held = mirror.report.held
         return {
             "format": FORMAT,
             "written": time.time(),
@@ -72,7 +81,7 @@ class StatusFile:
                 for one in remarks.shown
             ],
             "left_out": [{"path": os.fsdecode(path), "why": why} for path, why in remarks.left_out],
-            "held": "; ".join(mirror.report.held) or None,
+            "held": "; ".join(held) or None,
         }
 
     def _owners(self, remarks: Remarks, pending: Pending) -> dict[str, Any]:

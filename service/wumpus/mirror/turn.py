@@ -36,6 +36,7 @@ from .walk import Walk
 SLICE_SECONDS = 20.0
 FEED_SECONDS = 2.0  # that a batch of texts is to take, for which queries wait, and the next walk
 SLICE_BYTES = 16 << 20  # of texts in a batch at most
+SLICE_BYTES_FIRST = 4 << 20  # as long as it isn't known how fast the program is
 SLICE_BYTES_LEAST = 1 << 20
 FIRST_BYTES = 64 << 20  # of texts in a batch, as long as nobody is answered
 
@@ -106,7 +107,7 @@ class Mirror:
         self.accounts = Accounts(Budget(), int)  # of the looks since the last walk
         self.room: Room | None = None
         self.is_done = False  # the program was told that all was fed once
-        self.slice_bytes = SLICE_BYTES  # as many as are fed in the time that a batch is to take
+        self.slice_bytes = SLICE_BYTES_FIRST  # as many as are fed in the time of a batch
         self.most = sys.maxsize  # files in a batch: less, where the program has no memory for more
 
     @property
@@ -134,6 +135,7 @@ class Mirror:
         """Tells when all that was there at first was looked at once."""
         if not self.state.complete and not self.pending.waits_since(FIRST):
             self.state.complete = True
+            self.feeder.save()
         if self.state.complete and not self.is_done:
             self.is_done = True
             self.reach.done()

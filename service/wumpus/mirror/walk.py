@@ -20,7 +20,7 @@ from .reasons import Reason
 from .remarks import Remarks, path_of
 from .seen import Entry, FreshFile, Kept, SeenDirectory
 from .visit import Listing, Remark, Visit
-from .way import DIRECTORY_FLAGS, Restless, Step, Torn, Ways
+from .way import DIRECTORY_FLAGS, Restless, Step, Torn, Unsettled, Ways
 
 ATTEMPTS = 5
 WINDOW = 256  # directories that are read in a window, where nothing changes
@@ -165,7 +165,20 @@ class Walk:
             self.visits.pop(one, None)
             if self.found.get(one.identity) is one:
                 del self.found[one.identity]
+                self._give_back(one)
             waiting += [child for child in one.entries.values() if isinstance(child, SeenDirectory)]
+
+    def _give_back(self, directory: SeenDirectory) -> None:
+        """Gives the room back that a directory and its files took."""
+        number, above = directory.number, directory.above
+        if above is not None:
+            is_known = number != 0 and self._known_at(above, directory.name) == number
+            self.accounts.of_owner(directory.rights.owner).give_directory(is_known)
+        names = self.old.entries.get(number, {})
+        for name, entry in directory.entries.items():
+            if not isinstance(entry, Kept | SeenDirectory):
+                is_known = entry.number != 0 and names.get(name) == entry.number
+                self.accounts.of_owner(_owner_of(entry)).give_name(is_known)
 
     def _keep(
         self, visit: Visit, why: Reason, owner: int | None = None, number: int = 0
@@ -197,6 +210,9 @@ class Walk:
             return None
         try:
             step = None if above is None else self.ways.reach(above)
+        except Unsettled as unsettled:
+            self._again(visit, None, unsettled.directory)
+            return None
         except Torn as torn:
             self._break(torn.directory)
             return None
@@ -384,7 +400,6 @@ class Walk:
         else:
             above.entries[directory.name] = directory
             account = self.accounts.of_owner(directory.rights.owner)
-            account.take_name(listing.is_known)
             account.take_directory(listing.is_known)
         for why, owner, name in listing.remarks:
             if name:
@@ -402,7 +417,7 @@ class Walk:
         for name, entry in list(entries.items()):
             if isinstance(entry, Kept | SeenDirectory):
                 continue
-            owner = entry.rights.owner if isinstance(entry, Node) else entry.owner
+            owner = _owner_of(entry)
             if owner != last:
                 last, account = owner, self.accounts.of_owner(owner)
             is_known = entry.number != 0 and names.get(name) == entry.number
@@ -427,3 +442,8 @@ class Walk:
         if isinstance(seen, Node) and isinstance(entry, FreshFile):
             entry.is_torn = True
         return entry
+
+
+def _owner_of(file: Node | FreshFile) -> int:
+    """Who owns a file."""
+    return file.owner if isinstance(file, FreshFile) else file.rights.owner

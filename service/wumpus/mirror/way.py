@@ -29,6 +29,10 @@ class Torn(Exception):
         self.directory = directory
 
 
+class Unsettled(Torn):
+    """It may be what it was seen to be, but goes on changing."""
+
+
 class Restless(Exception):
     """Something changed just now, and goes on changing, or its owner has no more patience left."""
 
@@ -38,7 +42,8 @@ class Step:
     """A directory that is held open, and its ctime at the beginning of the window.
 
     After the look that ends a window, `cause` is the highest directory on the way that changed in
-    it, or None. It is broken where it isn't the directory that was seen, with the same rights.
+    it, or None. It is broken where it isn't the directory that was seen, with the same rights, and
+    unsettled where that isn't known, since it goes on changing.
     """
 
     directory: SeenDirectory
@@ -47,6 +52,7 @@ class Step:
     changed: int
     cause: "Step | None" = None
     is_broken: bool = False
+    is_unsettled: bool = False
 
 
 class Ways:
@@ -83,7 +89,10 @@ class Ways:
         return step
 
     def reach(self, directory: SeenDirectory) -> Step:
-        """Opens the way to a directory; what is open of it stays so. Raises `Torn`."""
+        """Opens the way to a directory; what is open of it stays so.
+
+        Raises `Torn`, and `Unsettled` of a directory on the way that goes on changing.
+        """
         found = self.steps.get(directory)
         if found is not None:
             return found
@@ -96,7 +105,7 @@ class Ways:
         return above
 
     def _open(self, directory: SeenDirectory, above: Step | None) -> Step:
-        """Opens one directory again. Raises `Torn`."""
+        """Opens one directory again. Raises `Torn`, and `Unsettled`."""
         if directory.is_forgotten:
             raise Torn(directory)
         try:
@@ -115,7 +124,10 @@ class Ways:
         return self.enter(directory, descriptor, above)
 
     def _is_same(self, directory: SeenDirectory, descriptor: int) -> bool:
-        """Whether it is the directory that was seen, with the same rights; its ctime is kept."""
+        """Whether it is the directory that was seen, with the same rights; its ctime is kept.
+
+        Raises `Unsettled` where it goes on changing.
+        """
         try:
             status = os.fstat(descriptor)
             if identity_of(status) != directory.identity:
@@ -125,7 +137,9 @@ class Ways:
                 if self._rights(descriptor, status) != directory.rights:
                     return False
                 directory.changed = status.st_ctime_ns
-        except (OSError, Restless):
+        except Restless as error:
+            raise Unsettled(directory) from error
+        except OSError:
             return False
         return True
 
@@ -157,13 +171,22 @@ class Ways:
             return True, True
         if status.st_ctime_ns == step.changed:
             return False, False
-        is_same = self._is_same(step.directory, step.descriptor)
+        try:
+            is_same = self._is_same(step.directory, step.descriptor)
+        except Unsettled:
+            step.is_unsettled = True
+            return True, False
         step.changed = step.directory.changed
         return True, not is_same
 
     def keep(self, directory: SeenDirectory | None) -> None:
-        """Closes all but the way to a directory."""
-        staying = set() if directory is None else set(directory.way())
+        """Closes all but the way to a directory, as far as it is settled."""
+        staying = set()
+        for one in [] if directory is None else directory.way():
+            found = self.steps.get(one)
+            if found is None or found.is_unsettled:
+                break
+            staying.add(one)
         for one, step in list(self.steps.items()):
             if one not in staying:
                 os.close(step.descriptor)
