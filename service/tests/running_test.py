@@ -4,6 +4,7 @@ A path that an administrator names is looked at at once; nobody else can ask for
 failure it tries again soon, however seldom its turns are. What it tells stands in its status file.
 """
 
+import argparse
 import json
 import os
 import signal
@@ -20,7 +21,7 @@ from kernel import User, become
 from mirror_test import Place
 
 from wumpus.mirror import command  # isort: skip
-from wumpus.mirror.command import count_of, seconds_of  # isort: skip
+from wumpus.shared.numbers import count, seconds, seconds_or_never  # isort: skip
 from wumpus.status.files import read_mirror  # isort: skip
 
 ANN, EVE = 1000, 1002
@@ -174,17 +175,22 @@ def ends(score: Score) -> None:
         mock.patch("traceback.print_exc"),
     ):
         score.check(command.main() == 2, "an exception that nobody foresaw")
-    for text in ("0", "-1", "x", "", "1.5", "\u0661"):
-        score.check(is_refused(count_of, text), f"a count of {text!r}")
-    for text in ("0", "-1", "x", "", "nan", "inf"):
-        score.check(is_refused(seconds_of, text), f"{text!r} seconds")
+    for text in ("0", "-1", "x", "", "1.5", "\u0661", "1_0", "9" * 5000, f"{(1 << 50) + 1}"):
+        score.check(is_refused(count, text), f"a count of {text[:20]!r}")
+    for text in ("-1", "x", "", "nan", "inf", "1e10", "9" * 5000):
+        score.check(is_refused(seconds, text), f"{text[:20]!r} seconds")
+        score.check(is_refused(seconds_or_never, text), f"{text[:20]!r} seconds, or never")
+    score.check(is_refused(seconds, "0") and seconds_or_never("0") == 0.0, "0 seconds")
+    given = (count("1"), count(f"{1 << 50}"), count("7", 7), seconds("0.5"), seconds("1e9"))
+    score.check(given == (1, 1 << 50, 7, 0.5, 1e9), f"what is given: {given}")
+    score.check(is_refused(lambda text: count(text, 7), "8"), "a count of more than the most")
 
 
 def is_refused(read: Callable[[str], float], text: str) -> bool:
     """Whether an option refuses a number."""
     try:
         read(text)
-    except ValueError:
+    except argparse.ArgumentTypeError:
         return True
     return False
 

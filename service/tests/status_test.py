@@ -126,6 +126,7 @@ def needs_attention(place: Place, score: Score) -> None:
     place.well()
     status, out, _ = place.run("--old", "10")
     score.check(status == ATTENTION, f"--old: {out}")
+    score.check(place.run("--old", "nan")[0] == TROUBLE, "--old: a number that none is old beside")
     place.put("mirror.status", of_mirror(time.time()) | {"walk": None})
     score.check(place.run()[0] == WELL, "a mirror that has just begun")
 

@@ -17,6 +17,7 @@ from types import FrameType
 
 from .. import VERSION
 from ..shared.notify import notify
+from ..shared.numbers import count, seconds
 from ..shared.persons import Persons
 from ..shared.privileges import become_owner_of
 from ..shared.progress import Progress, plain
@@ -67,7 +68,7 @@ def parser() -> argparse.ArgumentParser:
     add("--unlisted", action="store_true", help="show also what only who knows its name may open")
     add("--users", metavar="FILE", help="a user and her groups a line, in place of the system's")
     add("--served", action="store_true", help="only by a service: never run the program itself")
-    add("--every", type=seconds_of, metavar="SECONDS", help="go on for ever, a turn so often")
+    add("--every", type=seconds, metavar="SECONDS", help="go on for ever, a turn so often")
     add("--now", action="append", default=[], metavar="PATH",
         help="look at this path at once, also where another mirror runs; may be given again")  # fmt: skip
     add("--force", action="store_true", help="take away what is held, as it was found")
@@ -82,31 +83,16 @@ def parser() -> argparse.ArgumentParser:
 def add_budget(options: argparse.ArgumentParser) -> None:
     """The options that bound what one owner may cost."""
     add, budget = options.add_argument, Budget()
-    add("--budget-names", type=count_of, default=budget.names, metavar="N",
+    add("--budget-names", type=count, default=budget.names, metavar="N",
         help=f"names of what one user owns ({budget.names})")  # fmt: skip
-    add("--budget-directories", type=count_of, default=budget.directories, metavar="N",
+    add("--budget-directories", type=count, default=budget.directories, metavar="N",
         help=f"directories of one user ({budget.directories})")  # fmt: skip
-    add("--budget-links", type=count_of, default=budget.links, metavar="N",
+    add("--budget-links", type=count, default=budget.links, metavar="N",
         help=f"names of one file of a user ({budget.links})")  # fmt: skip
-    add("--budget-bytes", type=count_of, default=budget.text_bytes, metavar="N",
+    add("--budget-bytes", type=count, default=budget.text_bytes, metavar="N",
         help=f"of the texts of one user ({budget.text_bytes})")  # fmt: skip
-    add("--budget-seconds", type=seconds_of, default=budget.seconds, metavar="SECONDS",
+    add("--budget-seconds", type=seconds, default=budget.seconds, metavar="SECONDS",
         help=f"of a walk, and of the looks after it, for one user ({budget.seconds:.0f})")  # fmt: skip
-
-
-def count_of(text: str) -> int:
-    """A number of an option, at least 1. Raises `ValueError`."""
-    if not text.isascii() or not text.isdigit() or int(text) < 1:
-        raise ValueError
-    return int(text)
-
-
-def seconds_of(text: str) -> float:
-    """A time of an option, more than 0. Raises `ValueError`."""
-    seconds = float(text)
-    if not 0 < seconds < math.inf:
-        raise ValueError
-    return seconds
 
 
 def budget_of(given: argparse.Namespace) -> Budget:

@@ -1,55 +1,29 @@
 """The options of `wumpusd`, each with the values that it may have."""
 
 import argparse
-import math
 import re
 
 from .. import VERSION
+from ..shared.numbers import count, seconds, seconds_or_never
 from ..shared.persons import SUBORDINATE
 from ..shared.store import FOLDER, SOCKETS
 from .allowed import Allowed, ranges_of
 from .clients import Bounds
 
-SECONDS_AT_MOST = 1e9
 CONNECTIONS_AT_MOST = 100_000
 BYTES_AT_MOST = 1 << 40
 ALL_MAY = 0o666
 GROUP_MAY = 0o660
 
 
-def seconds(text: str) -> float:
-    """A time that is more than nothing."""
-    value = seconds_or_never(text)
-    if value == 0:
-        raise argparse.ArgumentTypeError("must be more than 0")
-    return value
-
-
-def seconds_or_never(text: str) -> float:
-    """A time, or 0 for none."""
-    try:
-        value = float(text)
-    except ValueError as error:
-        raise argparse.ArgumentTypeError(f"{text!r} is no number") from error
-    if not math.isfinite(value) or not 0 <= value <= SECONDS_AT_MOST:
-        raise argparse.ArgumentTypeError(f"{text} isn't from 0 to {SECONDS_AT_MOST:.0f}")
-    return value
-
-
 def connections(text: str) -> int:
     """A number of connections."""
-    return _whole(text, CONNECTIONS_AT_MOST)
+    return count(text, CONNECTIONS_AT_MOST)
 
 
 def size(text: str) -> int:
     """A number of bytes."""
-    return _whole(text, BYTES_AT_MOST)
-
-
-def _whole(text: str, most: int) -> int:
-    if not text.isascii() or not text.isdigit() or len(text) > 18 or not 1 <= int(text) <= most:
-        raise argparse.ArgumentTypeError(f"{text!r} isn't a whole number from 1 to {most}")
-    return int(text)
+    return count(text, BYTES_AT_MOST)
 
 
 def mode(text: str) -> int:

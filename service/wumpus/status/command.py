@@ -9,6 +9,7 @@ from pathlib import Path
 from typing import Any
 
 from .. import VERSION
+from ..shared.numbers import seconds
 from ..shared.progress import plain
 from .attention import attention
 from .files import (
@@ -37,7 +38,7 @@ def parser() -> argparse.ArgumentParser:
     )
     add = options.add_argument
     add_folders(options)
-    add("--old", type=float, default=OLD, metavar="SECONDS",
+    add("--old", type=seconds, default=OLD, metavar="SECONDS",
         help="how long ago the last walk may have begun (900)")  # fmt: skip
     add("--all", action="store_true", help="tell all owners and paths, and not the first alone")
     add("--json", action="store_true", help="one JSON object")
