@@ -11,6 +11,7 @@ SERVICE_TESTS := \
 	planner \
 	state \
 	mirror \
+	narrow \
 	running \
 	look \
 	language \

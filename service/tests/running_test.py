@@ -64,6 +64,11 @@ class Running:
         """When the last walk began that was fed."""
         return float(self.told().get("walk", {}).get("began") or 0.0)
 
+    def names(self) -> int:
+        """How many names of user 0 are known."""
+        owners: dict[str, dict[str, int]] = self.told().get("owners", {})
+        return owners["0"]["names"] if "0" in owners else 0
+
     def end(self) -> str:
         """Ends it: what it wrote."""
         self.child.send_signal(signal.SIGTERM)
@@ -77,14 +82,15 @@ def asked(place: Place, *words: str) -> subprocess.CompletedProcess[str]:
 
 
 def now(place: Place, score: Score) -> None:
-    """A path that is to be looked at at once, by an administrator alone."""
+    """A path that is walked at once, and it alone, for an administrator alone."""
     (place.tree / "a").write_text("apple\n")
     told = asked(place, "--now", str(place.tree / "new"))
     score.check(told.returncode == 2 and "no mirror is at work" in told.stderr, f"none: {told}")
     running = Running(place, "--quiet")
     score.check(wait_for(running.is_waiting), f"a turn: {running.told()}")
-    before = running.walked()
+    before, names = running.walked(), running.names()
     (place.tree / "new").write_text("apple\n")
+    (place.tree / "other").write_text("apple\n")
     child = os.fork()
     if child == 0:
         become(User(EVE, (EVE,)))
@@ -94,10 +100,28 @@ def now(place: Place, score: Score) -> None:
     score.check(status == 2 and running.walked() == before, f"a user who asks: {status}")
     told = asked(place, "--now", str(place.tree / "new"))
     score.check(told.returncode == 0, f"an administrator: {told}")
-    seen = wait_for(lambda: running.walked() > before and running.is_waiting())
+    seen = wait_for(lambda: running.names() == names + 1 and running.is_waiting())
     score.check(seen, f"it isn't looked at: {running.told()}")
+    score.check(running.walked() == before, f"no whole walk: {running.told()}")
+    told = asked(place, "--force", "--now", str(place.tree / "new"))
+    seen = wait_for(lambda: running.names() == names + 2 and running.is_waiting())
+    score.check(seen and running.walked() > before, f"a whole walk: {running.told()}")
+    (place.tree / "other").unlink()
+    asked(place, "--now", str(place.tree / "other"))
+    wait_for(lambda: running.names() == names + 1 and running.is_waiting())
     running.end()
     score.check(place.paths() == ["a", "new"], f"afterwards: {place.paths()}")
+
+
+def again_and_again(place: Place, score: Score) -> None:
+    """Who asks for a path again and again doesn't keep whole walks from coming."""
+    running = Running(place, "--quiet", "--every", "2")
+    score.check(wait_for(running.is_waiting), f"a turn: {running.told()}")
+    before, until = running.walked(), time.monotonic() + LATER
+    while running.walked() < before + 5.0 and time.monotonic() < until:
+        asked(place, "--now", str(place.tree / "a"))
+    score.check(running.walked() >= before + 5.0, f"walks go on: {running.told()}")
+    running.end()
 
 
 def status(place: Place, score: Score) -> None:
@@ -205,6 +229,7 @@ def main() -> int:
     with folder_of_own() as name:
         place = Place(Path(name), given.program)
         now(place, score)
+        again_and_again(place, score)
         status(place, score)
         starting(place, score, Path(name))
         again(place, score, Path(name))

@@ -69,7 +69,7 @@ def parser() -> argparse.ArgumentParser:
     add("--users", metavar="FILE", help="a user and her groups a line, in place of the system's")
     add("--served", action="store_true", help="only by a service: never run the program itself")
     add("--every", type=seconds, metavar="SECONDS", help="go on for ever, a turn so often")
-    add("--now", action="append", default=[], metavar="PATH",
+    add("--now", action="append", type=absolute, default=[], metavar="PATH",
         help="look at this path at once, also where another mirror runs; may be given again")  # fmt: skip
     add("--force", action="store_true", help="take away what is held, as it was found")
     add("--anew", action="store_true", help="move the store aside, and feed all anew")
@@ -93,6 +93,11 @@ def add_budget(options: argparse.ArgumentParser) -> None:
         help=f"of the texts of one user ({budget.text_bytes})")  # fmt: skip
     add("--budget-seconds", type=seconds, default=budget.seconds, metavar="SECONDS",
         help=f"of a walk, and of the looks after it, for one user ({budget.seconds:.0f})")  # fmt: skip
+
+
+def absolute(path: str) -> str:
+    """The path from `/` on, for a mirror that works in another directory."""
+    return os.path.abspath(path)
 
 
 def budget_of(given: argparse.Namespace) -> Budget:
@@ -239,7 +244,7 @@ class Session:
             self.watch.tell("waiting", self.told or None, is_due=True)
             if self.given.every is None:
                 return
-            wanted = wanted or self._wait(due)
+            wanted = wanted or self._wait(mirror, due)
 
     def _wish(self) -> Wish:
         """What is to be mirrored now, and whose each number of a user is."""
@@ -247,27 +252,49 @@ class Session:
         return wish_of(self.given, self.folder, self.users(), self.persons.of)
 
     def _turn(self, mirror: Mirror, wanted: Wanted, due: float) -> Wanted:
-        """One turn: what is asked for meanwhile ends it."""
+        """One turn: what is asked for meanwhile ends it, where all has to be walked for it."""
         wish = replace(self._wish(), force=wanted.force, first=wanted.paths)
         self.watch.tell("walking")
         with without_cycles():
             mirror.walk(wish)
         self.watch.status.count(mirror.state.tree)
         self.watch.tell("feeding", is_due=True)
+        return self._look(mirror, wish, due)
+
+    def _look(self, mirror: Mirror, wish: Wish, due: float) -> Wanted:
+        """Looks at what waits, until a turn is due, or asked for."""
         while True:
             left = due - time.monotonic()
-            seconds = SLICE_SECONDS if left <= 0 else max(SLICE_AT_LEAST, left)
-            more = mirror.look(wish, min(SLICE_SECONDS, seconds))
+            most = SLICE_SECONDS if left <= 0 else max(SLICE_AT_LEAST, left)
+            more = mirror.look(wish, min(SLICE_SECONDS, most))
             asked = take_wanted(self.folder)
-            if asked or not more or time.monotonic() >= due:
+            if asked and not self._narrow(mirror, asked):
                 return asked
+            if not (more or asked) or time.monotonic() >= due:
+                return Wanted()
 
-    def _wait(self, due: float) -> Wanted:
+    def _narrow(self, mirror: Mirror, wanted: Wanted) -> bool:
+        """Walks the paths that are asked for alone: whether that is enough."""
+        with without_cycles():
+            is_enough = mirror.narrow(
+                replace(self._wish(), force=wanted.force, first=wanted.paths)
+            )
+        if is_enough:
+            self.watch.status.count(mirror.state.tree)
+            self.watch.tell("feeding", self.told or None, is_due=True)
+        return is_enough
+
+    def _wait(self, mirror: Mirror, due: float) -> Wanted:
         """Waits until the next turn is due, or asked for."""
         while (left := due - time.monotonic()) > 0:
             time.sleep(min(left, LOOKED_FOR_WANTED))
             self.watch.pulse()
             asked = take_wanted(self.folder)
+            if asked and self._narrow(mirror, asked):
+                asked = self._look(mirror, self._wish(), due)
+                mirror.rest()
+                self.watch.status.count(mirror.state.tree)
+                self.watch.tell("waiting", self.told or None, is_due=True)
             if asked:
                 return asked
         return Wanted()

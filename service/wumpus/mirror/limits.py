@@ -14,6 +14,10 @@ class BadRoot(Exception):
     """A root that can't be walked; the text says why."""
 
 
+class NotNarrow(Exception):
+    """A walk of some paths alone isn't enough: all has to be walked."""
+
+
 @dataclass(frozen=True)
 class Limits:
     """What a walk leaves out: patterns, other file systems, and directories by identity."""
@@ -26,21 +30,32 @@ class Limits:
 
 @dataclass(slots=True)
 class RootPlace:
-    """A directory on the way to roots, with the names that lead on, or a root itself."""
+    """A directory on the way to roots, with the names that lead on, or a root itself.
+
+    Where some paths alone are walked, it is on the way to them, or has some of them: `only` are
+    their names in it, and `is_inner` tells whether it is a root or below one.
+    """
 
     below: "dict[bytes, RootPlace]" = field(default_factory=dict)
     is_root: bool = False
+    only: set[bytes] | None = None
+    is_inner: bool = False
+
+
+def names_of(path: bytes) -> tuple[bytes, ...]:
+    """The names of an absolute path. Raises `BadRoot` where it isn't one, or has `.` or `..`."""
+    names = tuple(name for name in path.split(b"/") if name)
+    if not path.startswith(b"/") or b"." in names or b".." in names:
+        raise BadRoot(f"{os.fsdecode(path)}: a root is an absolute path without . and ..")
+    return names
 
 
 def places_of_roots(roots: tuple[bytes, ...]) -> RootPlace:
     """The ways to the roots, from `/` on. Raises `BadRoot` where one isn't an absolute path."""
     top = RootPlace()
     for root in roots:
-        names = [name for name in root.split(b"/") if name]
-        if not root.startswith(b"/") or any(name in (b".", b"..") for name in names):
-            raise BadRoot(f"{os.fsdecode(root)}: a root is an absolute path without . and ..")
         place = top
-        for name in names:
+        for name in names_of(root):
             place = place.below.setdefault(name, RootPlace())
         place.is_root = True
     return top

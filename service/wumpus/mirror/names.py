@@ -3,7 +3,7 @@
 import os
 import stat
 import time
-from collections.abc import Callable, Iterator
+from collections.abc import Callable, Container, Iterator
 
 from ..shared.script import NAME_MAX
 from .budget import Account, Accounts
@@ -165,11 +165,15 @@ class Names:
         self.fits = pattern_of(limits.excludes) if limits.excludes else None
 
     def read(
-        self, reading: Reading, step: Step, places: dict[bytes, RootPlace]
+        self,
+        reading: Reading,
+        step: Step,
+        places: dict[bytes, RootPlace],
+        only: Container[bytes] | None = None,
     ) -> Iterator[bytes]:
         """Takes the files of a directory, and gives the names of its directories.
 
-        Those in `places` are left to the caller.
+        Those in `places` are left to the caller, and all but those in `only`, where that is set.
         """
         directory = step.directory
         kept = {name: name for name in reading.names}  # a name that was known isn't kept twice
@@ -181,9 +185,9 @@ class Names:
                 for count, entry in enumerate(entries, 1):
                     name = os.fsencode(entry.name)
                     name = kept.get(name, name)
-                    if name in places:
-                        continue
-                    if self.fits is not None and self.fits(name, path + name):
+                    if name in places or (only is not None and name not in only):
+                        pass
+                    elif self.fits is not None and self.fits(name, path + name):
                         seen.add(name)
                     elif name in left_out:
                         self._leave_out(reading, step, name, left_out[name])

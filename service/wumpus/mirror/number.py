@@ -6,7 +6,7 @@ writes anew and renames is a change of text, and devices may be numbered anew.
 """
 
 from ..shared.script import NUMBER_MAX
-from .nodes import FIRST, ROOT, Identity, Node, Tree
+from .nodes import FIRST, Identity, Node, Tree
 from .seen import Entry, FreshFile, Kept, SeenDirectory, directories_of
 
 
@@ -30,14 +30,18 @@ class Numbers:
 
 
 def give_numbers(
-    top: SeenDirectory, found: dict[Identity, Entry], old: Tree, following: int
+    top: SeenDirectory,
+    found: dict[Identity, Entry],
+    old: Tree,
+    following: int,
+    taken: set[int],
 ) -> int:
     """Sets the numbers, and the counts of names, of all that is reached from the top of a walk.
 
-    Gives the number to be tried first the next time.
+    The nodes of those that are `taken` stay what they are. Gives the number to be tried first the
+    next time.
     """
     numbers = Numbers(old.nodes, following)
-    taken = {ROOT}
     for directory in directories_of(top):
         places = old.entries.get(directory.number, {})
         for name, child in directory.entries.items():

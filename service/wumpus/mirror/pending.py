@@ -5,10 +5,12 @@ from its first day.
 """
 
 from collections import deque
-from collections.abc import Callable, Iterable
+from collections.abc import Callable, Container, Iterable, Iterator
 from dataclasses import dataclass
+from itertools import chain
 
 from ..shared.script import TEXT_MAX
+from .nodes import Tree
 from .remarks import path_of
 from .seen import FreshFile, SeenDirectory
 
@@ -58,6 +60,17 @@ class Pending:
             waiting.sort(key=lambda place: self.since[place.file.number])
         self.queues = {person: deque(waiting) for person, waiting in found.items()}
         self.turns = deque(sorted(self.queues))
+
+    def staying(
+        self, tree: Tree, found: Iterable[Place], inside: Container[int]
+    ) -> Iterator[Place]:
+        """What waits, and is still there in a tree: but for what was found, and what is inside."""
+        numbers = {place.file.number for place in found}
+        for place in chain.from_iterable(self.queues.values()):
+            number, directory = place.file.number, place.directory.number
+            is_there = tree.entries.get(directory, {}).get(place.name) == number
+            if is_there and number not in numbers and directory not in inside:
+                yield place
 
     def prefer(self, paths: tuple[bytes, ...]) -> None:
         """Has what is at or below some paths come before all else of its owner's."""

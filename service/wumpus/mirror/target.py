@@ -8,7 +8,7 @@ from collections.abc import Container
 
 from .batch import CLOSED_NAME
 from .keep import Top, keep
-from .nodes import Node, Rights, Tree, meet
+from .nodes import ROOT, Node, Rights, Tree, meet
 from .number import give_numbers
 from .pending import Place
 from .reasons import Reason
@@ -30,6 +30,7 @@ class Target:
         top: SeenDirectory,
         remarks: Remarks,
         waiting: Container[int],
+        taken: set[int] | None = None,
     ) -> None:
         self.state = state
         self.waiting = waiting  # the numbers of files that waited for a look before this walk
@@ -41,7 +42,9 @@ class Target:
         self.names = walk.seen
         if top.entries.pop(CLOSED_NAME, None) is not None:
             remarks.leave_out(b"/" + CLOSED_NAME, "the mirror's own name, it is left out")
-        self.following = give_numbers(top, walk.found, state.tree, state.following)
+        self.following = give_numbers(
+            top, walk.found, state.tree, state.following, taken or {ROOT}
+        )
         tops: list[Top] = []
         for directory in directories_of(top):
             self._put(directory, tops)

@@ -20,8 +20,9 @@ from ..shared.script import NUMBER_MAX
 from .batch import Texts
 from .budget import Accounts, Budget
 from .feed import Feeder
-from .limits import Limits
+from .limits import BadRoot, Limits, NotNarrow
 from .look import Looked, Looker
+from .narrow import NarrowTarget, part_of
 from .nodes import Node
 from .pending import FIRST, Pending, Place
 from .plan import Groups, Pairs, plan_all
@@ -105,6 +106,7 @@ class Mirror:
         self.report = Report()
         self.walked = Walked()
         self.accounts = Accounts(Budget(), int)  # of the looks since the last walk
+        self.whole: Wish | None = None  # what was walked whole by the last walk
         self.room: Room | None = None
         self.is_done = False  # the program was told that all was fed once
         self.slice_bytes = SLICE_BYTES_FIRST  # as many as are fed in the time of a batch
@@ -160,6 +162,7 @@ class Mirror:
         self.feeder.feed_tree(target.tree, wish.users, target.following, unlisted)
         self.reach.fed(moment)
         self.walked = Walked(began, seconds, target.names, time.time())
+        self.whole = replace(wish, force=False, first=())
         self.pulse()
         self.pending.renew(target.places, wish.person_of)
         self.pending.prefer(wish.first)
@@ -167,6 +170,36 @@ class Mirror:
         self.room = None
         self._count()
         self._be_complete()
+
+    def narrow(self, wish: Wish) -> bool:
+        """Walks what is at or below the paths of `first` alone, and feeds that, as `walk` does.
+
+        All else stays as it is known, and waits where it waited; of a walk nothing is told. False
+        where all has to be walked: then nothing was done. Raises `Failed`.
+        """
+        if self.whole != replace(wish, first=()):
+            return False
+        remarks = Remarks(self.progress.warn_of)
+        accounts = Accounts(wish.budget, wish.person_of)
+        accounts.reserve(self.state.tree)
+        try:
+            part = part_of(wish.first, wish.roots, self.state.tree)
+            walk = Walk(self.state.tree, wish.limits, accounts, remarks, self._seen)
+            top = walk.walk_to(part.place)
+            target = NarrowTarget(self.state, walk, top, remarks, self.pending.since, part)
+        except (NotNarrow, BadRoot):
+            return False
+        if target.hold():
+            return False
+        unlisted = wish.limits.access.unlisted
+        self.feeder.feed_tree(target.tree, wish.users, target.following, unlisted)
+        self.pulse()
+        waiting = list(self.pending.staying(target.tree, target.places, part.inside))
+        self.pending.renew([*target.places, *waiting], wish.person_of)
+        self.pending.prefer(wish.first)
+        self._count()
+        self._be_complete()
+        return True
 
     def _target(self, wish: Wish) -> Target:
         """What a walk finds."""

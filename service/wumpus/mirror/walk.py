@@ -13,7 +13,7 @@ from collections.abc import Callable
 from .access import BadList
 from .budget import Accounts
 from .keep import DEEPEST
-from .limits import BadRoot, Limits, places_of_roots
+from .limits import BadRoot, Limits, NotNarrow, RootPlace, places_of_roots
 from .names import DECLINES, FileSystems, Names, Reading, is_declined
 from .nodes import ROOT, Identity, Node, Rights, Tree, device_of, identity_of, inode_of
 from .reasons import Reason
@@ -70,7 +70,11 @@ class Walk:
 
         Raises `BadRoot` where a root is no absolute path, and where `/` doesn't stand still.
         """
-        self.waiting = [Visit(None, b"/", 1, None, places_of_roots(roots))]
+        return self.walk_to(places_of_roots(roots))
+
+    def walk_to(self, place: RootPlace) -> SeenDirectory:
+        """The same, by the ways from `/` on. Raises `BadRoot`, and `NotNarrow`."""
+        self.waiting = [Visit(None, b"/", 1, None, place)]
         try:
             while self.waiting:
                 self._window()
@@ -360,10 +364,12 @@ class Walk:
         known: list[Visit] = []
         names = self.old.entries.get(directory.number, {})
         if self._is_wanted(visit, step):
+            only = None
             if visit.place is not None:
-                device = device_of(directory.identity)
-            reading = Reading(listing, names, self.accounts, self.ways.account_of(directory))
-            for name in self.names.read(reading, step, places):
+                device, only = device_of(directory.identity), visit.place.only
+            there = names if only is None else {one: names[one] for one in only if one in names}
+            reading = Reading(listing, there, self.accounts, self.ways.account_of(directory))
+            for name in self.names.read(reading, step, places, only):
                 one = Visit(directory, name, visit.depth + 1, device, None)
                 (known if name in names else fresh).append(one)
         ways = [
@@ -373,17 +379,25 @@ class Walk:
         self.waiting += [*fresh[::-1], *known[::-1], *ways]
 
     def _is_wanted(self, visit: Visit, step: Step) -> bool:
-        """Whether the names of a directory are read: not only on the way to a root, nor declined."""
-        if visit.place is not None and not visit.place.is_root:
+        """Whether the names of a directory are read: not only on the way to a root, nor declined.
+
+        Raises `NotNarrow` where one on the way to a part of a root is declined.
+        """
+        place = visit.place
+        is_way = place is not None and not place.is_root
+        is_inner = place is not None and place.is_inner
+        if is_way and not is_inner:
             return False
         try:
             declined = is_declined(step)
         except OSError:
-            return True  # reading the names meets the same error, and tells it
+            declined = is_inner  # reading the names meets the same error, and tells it
+        if declined and is_inner:
+            raise NotNarrow
         if declined:
             path = path_of(visit.above, visit.name)
             self.remarks.leave_out(path, f"it has a file {os.fsdecode(DECLINES)}")
-        return not declined
+        return not declined and not is_way
 
     # ---- what stood still
 
