@@ -17,7 +17,17 @@ from contextlib import suppress
 from pathlib import Path
 
 from harness import Score, folder_of_own, needs_program, needs_root, options
-from service_test import ANN, BOB, CAROL, Served, as_user, ask_here, kill_program, wait_for
+from service_test import (
+    ANN,
+    BOB,
+    CAROL,
+    Served,
+    as_user,
+    ask_here,
+    children_of,
+    kill_program,
+    wait_for,
+)
 
 from wumpus.service.freshness import Freshness, Told
 from wumpus.shared.clock import moment
@@ -296,16 +306,30 @@ def begin_again(served: Served) -> bytes:
 
 
 def damaged(served: Served, score: Score) -> None:
-    """A mirror is told where the store can't be opened, and may move it aside."""
+    """A mirror is told where the store can't be opened, and may move it aside.
+
+    The service, which merges and saves when it likes, stands still while the store is damaged.
+    """
     hand = begin(served)
-    (served.store / "wumpus-store" / "root").write_bytes(b"damaged")
-    kill_program(served)
+    if served.process is not None:
+        served.process.send_signal(signal.SIGSTOP)
+        end_program(served)
+        (served.store / "wumpus-store" / "root").write_bytes(b"damaged")
+        served.process.send_signal(signal.SIGCONT)
     time.sleep(0.5)
     told = hand.told(b"ask\tstat")
     score.check(told.startswith(b"failed\tthe store can't be opened"), f"damaged: {told!r}")
     score.check(hand.told(b"reset") == b"ok", "it is moved aside")
     score.check(hand.told(b"ask\tstat").startswith(b"reply\tstat"), "an empty one is opened")
     hand.close()
+
+
+def end_program(served: Served) -> None:
+    """Kills the program of a service, and waits for the end of the true one below it."""
+    assert served.process is not None
+    programs = [two for one in children_of(served.process.pid) for two in children_of(one)]
+    kill_program(served)
+    wait_for(lambda: not any(Path(f"/proc/{one}/exe").exists() for one in programs))
 
 
 def of_clock(score: Score) -> None:

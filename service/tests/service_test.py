@@ -317,9 +317,14 @@ def saved_counts(served: Served, before: int, after: int) -> list[int]:
 def kill_program(served: Served, number: int = signal.SIGKILL) -> None:
     """Sends the program that the service holds a signal."""
     assert served.process is not None
-    children = Path(f"/proc/{served.process.pid}/task/{served.process.pid}/children")
-    for child in children.read_text().split():
-        os.kill(int(child), number)
+    for child in children_of(served.process.pid):
+        os.kill(child, number)
+
+
+def children_of(process: int) -> list[int]:
+    """The children of a process's first thread."""
+    told = Path(f"/proc/{process}/task/{process}/children").read_text(encoding="ascii")
+    return [int(child) for child in told.split()]
 
 
 def main() -> int:
