@@ -6,16 +6,22 @@ import pty
 import shlex
 import shutil
 import signal
+import socket
 import subprocess
 import sys
+import time
 from collections.abc import Mapping
+from contextlib import suppress
 from dataclasses import dataclass
 from pathlib import Path
 from types import MappingProxyType
+from unittest import mock
 
 from harness import SERVICE, Score, folder_of_own, needs_program, options
 from kernel import User, become
 from service_test import Served, mirror_until_done
+
+from wumpus.ask import asking  # isort: skip
 
 ESCAPE = "evil\x1b[31m\x07\u009b2J\u202e"
 ANN, BOB = User(1000, (1000,)), User(1001, (1001,))
@@ -443,6 +449,39 @@ def readme(served: Served, score: Score) -> None:
         score.check(is_good, f"{example}: {ran.returncode} {ran.stderr}")
 
 
+def crowded(score: Score, folder: Path) -> None:
+    """Where more connections wait than the service's backlog takes, the client waits too."""
+    path, held = folder / "ask", list[socket.socket]()
+    with socket.socket(socket.AF_UNIX, socket.SOCK_STREAM) as listener:
+        listener.bind(str(path))
+        listener.listen(1)
+        with suppress(BlockingIOError):
+            while len(held) < 10:
+                held.append(socket.socket(socket.AF_UNIX, socket.SOCK_STREAM))
+                held[-1].setblocking(False)
+                held[-1].connect(str(path))
+        with mock.patch.object(asking, "SECONDS", 0.2):
+            try:
+                asking.Asking(path)
+                told = "a connection"
+            except asking.Trouble as trouble:
+                told = str(trouble)
+        score.check("took no connection" in told, f"where none is taken for too long: {told}")
+        words = [str(SERVICE / "wumpus-ask"), "--sockets", str(folder), "lunch"]
+        client = subprocess.Popen(words, stderr=subprocess.PIPE, text=True)
+        time.sleep(1.0)
+        score.check(client.poll() is None, "it waits")
+        for one in held:
+            one.close()
+        listener.settimeout(20)
+        while client.poll() is None:
+            with suppress(OSError), listener.accept()[0] as connection:
+                connection.recv(1000)
+                connection.sendall(b"refused\tstale\n" * 32)
+        error = client.communicate(timeout=20)[1]
+        score.check("for too long" in error, f"what it is answered then: {error}")
+
+
 def main() -> int:
     """Runs the test."""
     given = options(__doc__ or "").parse_args()
@@ -464,6 +503,7 @@ def main() -> int:
         finally:
             served.end(signal.SIGTERM)
         lint(score, given.program, Path(name))
+        crowded(score, Path(name))
     return score.end()
 
 

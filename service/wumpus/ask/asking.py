@@ -1,6 +1,7 @@
 """A connection to the service, on which queries are asked one after the other."""
 
 import socket
+import struct
 from collections.abc import Iterator, Sequence
 from contextlib import suppress
 from itertools import islice
@@ -56,14 +57,31 @@ class Asking:
 
     def __init__(self, path: Path) -> None:
         self.socket = socket.socket(socket.AF_UNIX, socket.SOCK_STREAM)
-        self.socket.settimeout(SECONDS)
+        try:
+            self._connect(path)
+        except Trouble:
+            self.socket.close()
+            raise
+        self.answers = self.socket.makefile("rb")
+
+    def _connect(self, path: Path) -> None:
+        """Connects, and waits where so many do that the service hasn't taken yet.
+
+        The kernel waits for that, and not where the socket has a timeout of Python's. Raises
+        `Trouble`.
+        """
+        limit = struct.pack("@ll", *divmod(int(SECONDS * 1_000_000), 1_000_000))
+        self.socket.setsockopt(socket.SOL_SOCKET, socket.SO_SNDTIMEO, limit)
         try:
             self.socket.connect(str(path))
         except (FileNotFoundError, ConnectionRefusedError) as error:
             raise Trouble(f"no service answers at {path}: is wumpusd running?") from error
+        except BlockingIOError as error:
+            told = f"the service took no connection for {SECONDS:.0f} s: too many ask, or it hangs"
+            raise Trouble(told) from error
         except OSError as error:
             raise Trouble(f"{path}: {error.strerror}") from error
-        self.answers = self.socket.makefile("rb")
+        self.socket.settimeout(SECONDS)
 
     def close(self) -> None:
         """Ends the connection."""
