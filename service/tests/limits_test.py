@@ -1,15 +1,22 @@
 """The limits of the service, each by itself: replies, connections, silence, age, and time."""
 
 import os
+import selectors
 import signal
 import socket
 import sys
 import time
+from collections import deque
 from contextlib import suppress
 from pathlib import Path
+from unittest import mock
 
 from harness import Score, folder_of_own, needs_program, needs_root, options
 from service_test import ANN, BOB, CAROL, Served, as_user, kill_program, mirror_until_done
+
+from wumpus.service import engine  # isort: skip
+from wumpus.service.tasks import Asked  # isort: skip
+from wumpus.shared.program import Program  # isort: skip
 
 COUNT = b'count\t"apple"'
 FILES = 8
@@ -84,13 +91,59 @@ def of_time(served: Served, score: Score) -> None:
     score.check(told == b"count\t%d\t%d" % (FILES, FILES), f"another user: {told!r}")
 
 
+def of_clock(score: Score) -> None:
+    """When a query of two seconds is ended: by its processor, by the clock, and by its waiting."""
+    selector, pipe = selectors.DefaultSelector(), os.pipe()
+    for now, spent, waited, is_ended in (
+        (1.9, 1.9, 0.0, False), (2.2, 2.1, 0.0, True), (3.9, 0.1, 0.0, False),
+        (4.1, 0.1, 0.0, True), (15.0, 0.1, 12.0, False), (15.0, 2.1, 12.0, True),
+        (15.0, 0.1, 10.0, True), (19.9, 1.0, 18.0, False), (20.1, 1.0, 19.0, True),
+        (3.9, 0.1, -7.0, False), (4.1, 0.1, -7.0, True),
+    ):  # fmt: skip
+        clock = mock.Mock(monotonic=mock.Mock(return_value=100.0))
+        program = mock.Mock(waiting=deque(), input=pipe[1], output=pipe[0])
+        program.spent.return_value, program.waited.return_value = 30.0, 50.0
+        with mock.patch.object(engine, "time", clock):
+            one = engine.Engine(mock.Mock(), selector, 600.0, mock.Mock(), mock.Mock())
+            one.program = program
+            one.give(Asked([], COUNT, 2.0, 100, mock.Mock()))
+            clock.monotonic.return_value += now
+            program.spent.return_value += spent
+            program.waited.return_value += waited
+            one.look_at_clock()
+        told = f"after {now} s, {spent} s of them worked, {waited} s waited"
+        score.check((one.program is None) == is_ended, told)
+    selector.close()
+    for descriptor in pipe:
+        os.close(descriptor)
+
+
+def of_waiting(score: Score, folder: Path) -> None:
+    """How long a program waited for a processor, as the kernel tells it."""
+    script = folder / "busy"
+    script.write_text("#!/bin/sh\nwhile :; do :; done\n")
+    script.chmod(0o755)
+    processor = min(os.sched_getaffinity(0))
+    programs = [Program(str(script), folder) for _ in range(2)]
+    for one in programs:
+        os.sched_setaffinity(one.child.pid, {processor})
+    time.sleep(1.0)
+    spent, waited = programs[0].spent(), programs[0].waited()
+    for one in programs:
+        one.kill()
+    score.check(waited > 0.1, f"{spent} s worked, {waited} s waited, beside another one")
+    score.check(programs[0].waited() == 0.0, "one that has ended")
+
+
 def main() -> int:
     """Runs the test."""
     given = options(__doc__ or "").parse_args()
     needs_root("limits")
     needs_program("limits", given.program)
     score = Score("limits")
+    of_clock(score)
     with folder_of_own() as name:
+        of_waiting(score, Path(name))
         served = Served(Path(name), given.program)
         for number in range(FILES):
             path = served.tree / f"file{number}"

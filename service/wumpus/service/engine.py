@@ -16,7 +16,8 @@ STAT = b"stat\n"
 LONGEST_PAUSE = 30.0  # seconds before the program is started again
 SHORTEST_PAUSE = 0.05
 DOUBLINGS = 12
-BY_CLOCK = 2.0  # so many times its seconds of the processor may a task take by the clock
+BY_CLOCK = 2.0  # so many times its seconds of the processor may a query take by the clock
+LATEST = 10.0  # so many times, with the time in which the program waited for a processor
 OF_CLOCK = 8.0  # so many seconds of the clock count as one of the processor
 END_SECONDS = 600.0
 KEPT_REASONS = 5
@@ -46,6 +47,7 @@ class Engine:
         self.task: Task | None = None
         self.since = 0.0
         self.spent = 0.0  # of the processor, when the task began
+        self.waited = 0.0  # for a processor, when the task began
         self.failures = 0  # since something was answered
         self.unopened = 0  # starts since the store was opened
         self.begin_at = 0.0
@@ -158,6 +160,7 @@ class Engine:
         self.task = task
         self.since = time.monotonic()
         self.spent = self.program.spent()
+        self.waited = self.program.waited()
         self._write(self.program)
 
     def _write(self, program: Program) -> None:
@@ -214,9 +217,14 @@ class Engine:
 
         By the clock alone other work on the machine would make each query a slow one.
         """
-        by_clock = time.monotonic() - self.since
         spent = 0.0 if self.program is None else self.program.spent() - self.spent
-        return max(spent, by_clock / OF_CLOCK)
+        return max(spent, self._by_clock() / OF_CLOCK)
+
+    def _by_clock(self) -> float:
+        """Seconds of the clock that the task took, but for those without a free processor."""
+        taken = time.monotonic() - self.since
+        waited = 0.0 if self.program is None else self.program.waited() - self.waited
+        return taken - min(taken, max(0.0, waited))
 
     def _failed(self, error: Ended | BadReply) -> None:
         if isinstance(error, BadReply):
@@ -233,7 +241,8 @@ class Engine:
         seconds = self.task.seconds
         if seconds is not None:
             spent = self.program.spent() - self.spent
-            if spent > seconds or taken > BY_CLOCK * seconds:
+            is_late = self._by_clock() > BY_CLOCK * seconds or taken > LATEST * seconds
+            if spent > seconds or is_late:
                 self.drop(Failure(Cause.SLOW, "a query took too long"))
         elif taken > self.longest:
             self.drop(Failure(Cause.SLOW, "the program took too long"))

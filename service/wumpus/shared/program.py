@@ -125,6 +125,14 @@ class Program:
         except OSError:
             return 0.0
 
+    def waited(self) -> float:
+        """Seconds for which it was ready and had no processor; 0 where that can't be known."""
+        try:
+            told = Path(f"/proc/{self.child.pid}/schedstat").read_text(encoding="ascii").split()
+        except OSError:
+            return 0.0
+        return int(told[1]) / 1e9 if len(told) > 1 else 0.0
+
     def memory(self) -> int:
         """Bytes of memory that it has; 0 where it has ended."""
         try:
