@@ -12,59 +12,22 @@ What can't be asked is a `Fault`, which says where and what to write.
 
 import re
 from collections.abc import Iterator
-from dataclasses import dataclass
-from enum import Enum, auto
 
 from ..shared.words import WORD
+from .tokens import BLANK, BLANKS, QUOTES, Kind, Reader, Token
 from .tree import (
     And, Fault, Filter, Leaf, Line, Mixed, Near, Not, Or, Phrase, Prefix, Question, Row, Side, Span,
-    Subject, Tree, Unit, Word, text_of,
+    Tree, Unit, Word, text_of,
 )  # fmt: skip
 
 QUERY_BYTES = 4096
 DEPTH = 32  # parentheses and NOTs in each other
-GAP = 10  # of a NEAR without a number
-GAP_MAX = 1000
 PREFIX_BYTES = 3  # what is shorter begins so many words that looking them up is dear for all
 
-_BLANK = rb"(?:[ \t\n\v\f\r]|\xc2\xa0|\xe2\x80\xaf)"  # with both spaces that don't break
-_QUOTE = rb'(?:"|\xe2\x80[\x9c-\x9f])'  # with the typographic ones
-_BLANKS = re.compile(_BLANK + rb"*")
-_QUOTES = re.compile(_QUOTE)
-_TERM = re.compile(rb"(?:(?!%b|%b)[^()|])+" % (_BLANK, _QUOTE), re.DOTALL)
-_NAMED = re.compile(rb"([A-Za-z]+):", re.DOTALL)
-_NEAR = re.compile(rb"NEAR(?:/(.*))?", re.DOTALL)
 _STARRED = re.compile(rb"[^*]*?([0-9A-Za-z\x80-\xff]+)\*", re.DOTALL)
 _ALIKE = re.compile(rb"[0-9A-Za-z\x80-\xff]~[0-9.]*$")
 _NEEDS_NO_QUOTES = re.compile(rb"[0-9A-Za-z_./+@%-]+")
 _STAR_IN_QUOTES = re.compile(rb"[0-9A-Za-z\x80-\xff]\*")
-
-
-class _Kind(Enum):
-    OPEN = auto()
-    CLOSE = auto()
-    LINE = auto()
-    OR = auto()
-    AND = auto()
-    NOT = auto()
-    NEAR = auto()
-    QUOTED = auto()
-    TERM = auto()
-    FILTER = auto()
-
-
-@dataclass(frozen=True)
-class _Token:
-    kind: _Kind
-    span: Span
-    text: bytes = b""
-    gap: int = GAP
-    filter: Filter | None = None
-
-
-_SIGNS = {b"(": _Kind.OPEN, b")": _Kind.CLOSE, b"|": _Kind.OR}
-_OPERATORS = {b"AND": _Kind.AND, b"OR": _Kind.OR, b"NOT": _Kind.NOT}
-_SUBJECTS = {one.value.encode(): one for one in Subject}
 _BESIDE = "in: name: ext: path: stand beside the words, and not in an OR or a - with them"
 _AROUND_NEAR = "NEAR stands between words, phrases, and (this OR that)"
 _NO_STAR = "a * stands at the end of a word, and nothing else stands for letters"
@@ -72,131 +35,16 @@ _NO_STAR = "a * stands at the end of a word, and nothing else stands for letters
 
 def quoted(value: bytes) -> bytes | None:
     """A value as a filter has it; None where it has a quote, which no filter can have."""
-    if _QUOTES.search(value):
+    if QUOTES.search(value):
         return None
     return value if _NEEDS_NO_QUOTES.fullmatch(value) else b'"%b"' % value
-
-
-# ---- tokens
-
-
-class _Reader:
-    """Cuts a query into tokens."""
-
-    def __init__(self, query: bytes) -> None:
-        self.query = query
-        self.at = 0
-
-    def tokens(self) -> Iterator[_Token]:
-        """All tokens. Raises `Fault`."""
-        stands_free = True  # a blank or an opening is before
-        while True:
-            start = self.at
-            self._skip_blanks()
-            stands_free = stands_free or self.at > start
-            if self.at == len(self.query):
-                return
-            token = self._next(stands_free)
-            stands_free = token.kind in (_Kind.OPEN, _Kind.LINE, _Kind.OR)
-            yield token
-
-    def _skip_blanks(self) -> None:
-        found = _BLANKS.match(self.query, self.at)
-        self.at = found.end() if found else self.at
-
-    def _next(self, stands_free: bool) -> _Token:
-        start = self.at
-        sign = self.query[start : start + 1]
-        if sign in _SIGNS:
-            self.at += 1
-            return _Token(_SIGNS[sign], Span(start, self.at))
-        if _QUOTES.match(self.query, start):
-            text = self._quoted()
-            return _Token(_Kind.QUOTED, Span(start, self.at), text)
-        if sign == b"-" and stands_free and self._goes_on(start + 1):
-            self.at += 1
-            return _Token(_Kind.NOT, Span(start, self.at))
-        return self._term()
-
-    def _goes_on(self, at: int) -> bool:
-        """Whether something stands here that isn't a blank or the end of a group."""
-        rest = self.query[at : at + 3]
-        return rest[:1] not in (b"", b")", b"|") and not re.match(_BLANK, rest)
-
-    def _quoted(self) -> bytes:
-        """What stands between the quote here and the next one."""
-        opening = _QUOTES.match(self.query, self.at)
-        start = opening.end() if opening else self.at
-        closing = _QUOTES.search(self.query, start)
-        if closing is None:
-            span = Span(self.at, start)
-            raise Fault("a quote is open: a phrase stands between two", span)
-        self.at = closing.end()
-        return self.query[start : closing.start()]
-
-    def _term(self) -> _Token:
-        start = self.at
-        found = _TERM.match(self.query, start)
-        self.at = found.end() if found else start + 1
-        text = self.query[start : self.at]
-        span = Span(start, self.at)
-        if text in _OPERATORS:
-            return _Token(_OPERATORS[text], span, text)
-        near = _NEAR.fullmatch(text)
-        if near is not None:
-            return _Token(_Kind.NEAR, span, text, gap=_gap_of(near[1], span))
-        named = _NAMED.match(text)
-        if named is not None:
-            return self._named(named[1], text[named.end() :], span)
-        return _Token(_Kind.TERM, span, text)
-
-    def _named(self, name: bytes, rest: bytes, span: Span) -> _Token:
-        """A filter, `line:(`, or a text with a colon in it."""
-        joined = re.compile(rb"\(|" + _QUOTE).match(self.query, self.at)
-        if name == b"line":
-            if rest or joined is None or joined.group() != b"(":
-                raise Fault("line: stands before a parenthesis: line:(budget lunch)", span)
-            self.at += 1
-            return _Token(_Kind.LINE, Span(span.start, self.at))
-        if name in _SUBJECTS:
-            filter_ = self._filter(name, rest, span, joined is not None)
-            return _Token(_Kind.FILTER, filter_.span, filter=filter_)
-        is_field = WORD.match(rest) is not None if rest else joined is not None
-        if is_field:
-            told = text_of(name)
-            raise Fault(
-                f"there is no {told}: here, but in: name: ext: path: line:(..). "
-                f'As text: "{told} .."',
-                span,
-            )
-        return _Token(_Kind.TERM, span, name + b":" + rest)
-
-    def _filter(self, name: bytes, rest: bytes, span: Span, is_joined: bool) -> Filter:
-        told = text_of(name)
-        if is_joined and (rest or self.query[self.at : self.at + 1] == b"("):
-            raise Fault(f'a value with blanks or parentheses stands in quotes: {told}:".."', span)
-        values = (self._quoted(),) if is_joined else tuple(filter(None, rest.split(b",")))
-        if not any(values):
-            raise Fault(f"{told}: stands before a value, without a blank: {told}:..", span)
-        return Filter(_SUBJECTS[name], values, Span(span.start, self.at))
-
-
-def _gap_of(number: bytes | None, span: Span) -> int:
-    if number is None:
-        return GAP
-    if re.fullmatch(rb"[0-9]{1,4}", number) is None or not 1 <= int(number) <= GAP_MAX:
-        raise Fault(f"after NEAR/ stands a number from 1 to {GAP_MAX}", span)
-    return int(number)
-
-
-# ---- the tree
 
 
 class _Parser:
     """Reads tokens into a tree, by a method for each rule of the grammar."""
 
     def __init__(self, query: bytes) -> None:
-        self.tokens = list(_Reader(query).tokens())
+        self.tokens = list(Reader(query).tokens())
         self.end = len(query)
         self.at = 0
         self.depth = 0
@@ -208,10 +56,10 @@ class _Parser:
             raise Fault("this ) closes nothing", self.tokens[self.at].span)
         return tree
 
-    def _kind(self) -> _Kind | None:
+    def _kind(self) -> Kind | None:
         return self.tokens[self.at].kind if self.at < len(self.tokens) else None
 
-    def _take(self) -> _Token:
+    def _take(self) -> Token:
         if self.at == len(self.tokens):
             raise Fault("something is missing at the end", Span(self.end, self.end))
         self.at += 1
@@ -219,21 +67,21 @@ class _Parser:
 
     def _query(self) -> Tree[Mixed]:
         parts = [self._and()]
-        while self._kind() is _Kind.OR:
+        while self._kind() is Kind.OR:
             self._take()
             parts.append(self._and())
         return parts[0] if len(parts) == 1 else Or(tuple(parts))
 
     def _and(self) -> Tree[Mixed]:
         parts = [self._not()]
-        while self._kind() not in (None, _Kind.CLOSE, _Kind.OR):
-            if self._kind() is _Kind.AND:
+        while self._kind() not in (None, Kind.CLOSE, Kind.OR):
+            if self._kind() is Kind.AND:
                 self._take()
             parts.append(self._not())
         return parts[0] if len(parts) == 1 else And(tuple(parts))
 
     def _not(self) -> Tree[Mixed]:
-        if self._kind() is not _Kind.NOT:
+        if self._kind() is not Kind.NOT:
             return self._near()
         self._deeper(self._take())
         part = self._not()
@@ -243,14 +91,14 @@ class _Parser:
     def _near(self) -> Tree[Mixed]:
         start = self.at
         first = self._unit()
-        if self._kind() is not _Kind.NEAR:
+        if self._kind() is not Kind.NEAR:
             return first
         units = [self._side(first, start)]
         gaps = []
-        while self._kind() is _Kind.NEAR:
+        while self._kind() is Kind.NEAR:
             gaps.append(self._take().gap)
             place = self.at
-            if self._kind() in (_Kind.NOT, _Kind.LINE, _Kind.FILTER):
+            if self._kind() in (Kind.NOT, Kind.LINE, Kind.FILTER):
                 raise Fault(_AROUND_NEAR, self.tokens[place].span)
             units.append(self._side(self._unit(), place))
         return Near(tuple(units), tuple(gaps), self._span_from(start))
@@ -269,33 +117,33 @@ class _Parser:
 
     def _unit(self) -> Tree[Mixed]:
         token = self._take()
-        if token.kind is _Kind.TERM:
+        if token.kind is Kind.TERM:
             return _row_of(token)
-        if token.kind is _Kind.QUOTED:
+        if token.kind is Kind.QUOTED:
             return _phrase_of(token)
         if token.filter is not None:
             return token.filter
-        if token.kind is _Kind.OPEN:
+        if token.kind is Kind.OPEN:
             return self._group(token)
-        if token.kind is _Kind.LINE:
+        if token.kind is Kind.LINE:
             start = self.at - 1
             within = _without_filters(self._group(token))
             return Line(within, self._span_from(start))
         raise Fault("something is missing before this", token.span)
 
-    def _group(self, opening: _Token) -> Tree[Mixed]:
+    def _group(self, opening: Token) -> Tree[Mixed]:
         """What stands up to the parenthesis that closes."""
         self._deeper(opening)
         if self._kind() is None:
             raise Fault("this ( is never closed", _last_byte_of(opening.span))
         within = self._query()
-        if self._kind() is not _Kind.CLOSE:
+        if self._kind() is not Kind.CLOSE:
             raise Fault("this ( is never closed", _last_byte_of(opening.span))
         self._take()
         self.depth -= 1
         return within
 
-    def _deeper(self, token: _Token) -> None:
+    def _deeper(self, token: Token) -> None:
         self.depth += 1
         if self.depth > DEPTH:
             message = f"more than {DEPTH} parentheses and - stand in each other here"
@@ -321,13 +169,13 @@ def _words_in(text: bytes, start: int, span: Span) -> tuple[Word, ...]:
 def _between_blanks(text: bytes) -> Iterator[Span]:
     """The pieces between blanks: those that don't break would be parts of words."""
     start = 0
-    for blank in re.finditer(_BLANK, text):
+    for blank in re.finditer(BLANK, text):
         yield Span(start, blank.start())
         start = blank.end()
     yield Span(start, len(text))
 
 
-def _row_of(token: _Token) -> Row:
+def _row_of(token: Token) -> Row:
     text = token.text
     if _ALIKE.search(text):
         message = "there is no search for words that are alike: write plan*, or a OR b"
@@ -352,7 +200,7 @@ def too_short(span: Span) -> Fault:
     return Fault(f"before a * stand at least {PREFIX_BYTES} letters", span)
 
 
-def _phrase_of(token: _Token) -> Phrase:
+def _phrase_of(token: Token) -> Phrase:
     star = _STAR_IN_QUOTES.search(token.text)
     if star is not None:
         message = "a * can't stand in quotes: plan* alone stands for words"
@@ -406,7 +254,7 @@ def read(query: bytes) -> Question:
     if len(query) > QUERY_BYTES:
         message = f"the query is too long: it has {len(query)} bytes of at most {QUERY_BYTES}"
         raise Fault(message, Span(QUERY_BYTES, len(query)))
-    if _BLANKS.fullmatch(query):
+    if BLANKS.fullmatch(query):
         raise Fault("there is nothing to look for", Span(0, len(query)))
     tree = _Parser(query).whole()
     texts: list[Tree[Unit]] = []
@@ -440,8 +288,8 @@ def any_of(question: Question) -> Question:
 def is_plain(argument: bytes) -> bool:
     """Whether an argument has several words and no syntax, so that it is meant as a phrase."""
     try:
-        tokens = list(_Reader(argument).tokens())
+        tokens = list(Reader(argument).tokens())
     except Fault:
         return False
-    are_terms = all(one.kind is _Kind.TERM and b"*" not in one.text for one in tokens)
+    are_terms = all(one.kind is Kind.TERM and b"*" not in one.text for one in tokens)
     return are_terms and len(tokens) > 1
