@@ -18,7 +18,7 @@ from typing import Any
 from unittest import mock
 
 from harness import Score, folder_of_own, needs_program, needs_root, options, quick_folder
-from trial import ANN, BOB, CLOSED, EVE, SUBORDINATE, ZOE, Trial, failing
+from trial import ANN, BOB, CLOSED, EVE, SUBORDINATE, ZOE, Trial, failing, person_of
 
 from wumpus.mirror import budget, feed, look, names as names_of, target, walk  # isort: skip
 from wumpus.mirror.budget import Budget  # isort: skip
@@ -567,6 +567,11 @@ def patience(trial: Trial) -> None:
         trial.turn()
     trial.check(trial.count(BOB) == b"count\t5\t5", f"the others: {trial.count(BOB)!r}")
     trial.check("eve/file" in trial.paths(0), "hers is kept")
+    accounts = budget.Accounts(Budget(), person_of)
+    for _ in range(100):
+        accounts.wait(accounts.of_owner(EVE), 0.2)
+    is_patient = [accounts.is_patient(accounts.of_owner(one)) for one in (EVE, SUBORDINATE, ANN)]
+    trial.check(is_patient == [False, False, True], f"hers alone is spent: {accounts.patience}")
 
 
 PARTS = (

@@ -138,9 +138,13 @@ class Accounts:
         return account.patience > 0 and self.patience > 0
 
     def wait(self, account: Account, seconds: float) -> None:
-        """Counts time in which something was waited for, or done again."""
+        """Counts time in which something was waited for, or done again.
+
+        What is more than an account had left isn't taken from all: who goes on being restless then
+        is shut, and costs the others no patience.
+        """
+        self.patience -= min(seconds, max(0.0, account.patience))
         account.patience -= seconds
-        self.patience -= seconds
 
     def wait_for(self, account: Account, changed: int) -> bool:
         """Waits until a change that comes now has another ctime than this one.
