@@ -24,12 +24,14 @@ SERVICE_TESTS := \
 	service \
 	requests \
 	fair \
+	shares \
 	allow \
 	neighbours \
 	attack \
 	kernel \
 	race \
 	bounds \
+	unseen \
 	calls \
 	walls \
 	server \

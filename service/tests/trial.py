@@ -3,13 +3,14 @@
 import contextlib
 import os
 import sys
+import time
 from collections import Counter
-from collections.abc import Iterator
+from collections.abc import Callable, Iterator, Sequence
 from pathlib import Path
 from typing import Any
 from unittest import mock
 
-from harness import Score
+from harness import Score, folder_of_own, needs_program, needs_root, options, quick_folder
 
 from wumpus.mirror import look  # isort: skip
 from wumpus.mirror.batch import Batch  # isort: skip
@@ -162,3 +163,38 @@ def failing(path: Path, number: int) -> Iterator[None]:
 
     with mock.patch.object(os, "scandir", listing):
         yield
+
+
+@contextlib.contextmanager
+def beside(touch: Callable[[], None]) -> Iterator[None]:
+    """A process that does something again and again, meanwhile."""
+    child = os.fork()
+    if child == 0:
+        while True:
+            touch()
+            time.sleep(0.002)
+    try:
+        time.sleep(0.1)
+        yield
+    finally:
+        os.kill(child, 9)
+        os.waitpid(child, 0)
+
+
+def run_parts(name: str, about: str, parts: Sequence[Callable[[Trial], None]]) -> int:
+    """Runs the parts of a test, or one, each with a tree and a mirror of its own."""
+    parser = options(about)
+    parser.add_argument("--only", metavar="PART", help="one part alone")
+    given = parser.parse_args()
+    needs_root(name)
+    needs_program(name, given.program)
+    score = Score(name)
+    with folder_of_own() as folder, quick_folder() as store:
+        for part in parts:
+            if given.only in (None, part.__name__):
+                trial = Trial(Path(folder), Path(store), given.program, score, part.__name__)
+                try:
+                    part(trial)
+                finally:
+                    trial.end()
+    return score.end()
