@@ -1,10 +1,11 @@
 #!/usr/bin/env python3
-"""What the mirror takes for very many files: `bench/many.py --files 1000000 FOLDER`.
+"""What the mirror takes for very many files.
 
-Makes a tree of that many files in the folder, a hundred in each directory, a tenth of them with a
-text, where it isn't there yet. Then a first turn of the mirror, and two without a change, each in a
-process of its own that begins with the state of the one before: its processor, and its peak
-memory. The program's place is taken by something that takes each batch and does nothing with it.
+`bench/many.py --files 1000000 --planner PATH FOLDER` makes a tree of that many files in the folder,
+a hundred in each directory, a tenth of them with a text, where it isn't there yet. Then a first
+turn of the mirror, and two without a change, each in a process of its own that begins with the
+state of the one before: processor and peak memory of the mirror, and those of `wumpus-plan`. The
+place of `wumpus` is taken by something that takes each batch and does nothing with it.
 """
 
 import argparse
@@ -22,6 +23,7 @@ from wumpus.mirror import look  # noqa: E402
 from wumpus.mirror.batch import Batch  # noqa: E402
 from wumpus.mirror.command import without_cycles  # noqa: E402
 from wumpus.mirror.limits import Limits  # noqa: E402
+from wumpus.mirror.planner import Planner  # noqa: E402
 from wumpus.mirror.turn import Mirror, Wish  # noqa: E402
 from wumpus.shared.progress import Progress  # noqa: E402
 
@@ -78,21 +80,26 @@ def make(tree: Path, files: int) -> None:
             os.close(path)
 
 
-def turn(what: str, tree: Path, store: Path) -> None:
+def turn(what: str, tree: Path, store: Path, program: str) -> None:
     """A turn of the mirror, as a row."""
     look.SETTLED = 0  # as if all files were old
     began = time.monotonic()
-    mirror = Mirror(Nothing(store), store, Progress("many", True))
+    planner = Planner(program)
+    mirror = Mirror(Nothing(store), store, Progress("many", True), planner=planner)
     mirror.begin(False)
     with without_cycles():
         told = mirror.turn(Wish((os.fsencode(tree),), Limits(), {}))
+    planner.close()
     usage = resource.getrusage(resource.RUSAGE_SELF)
     spent = usage.ru_utime + usage.ru_stime
+    plans = resource.getrusage(resource.RUSAGE_CHILDREN)
+    ordering = plans.ru_utime + plans.ru_stime
     size = sum(one.stat().st_size for one in store.glob("mirror.state"))
     print(
         f"| {what} | {told.files} files, {told.texts} texts in {told.batches} batches | "
         f"{spent:.1f} s of the processor, {time.monotonic() - began:.1f} s | "
-        f"peak {usage.ru_maxrss // 1024} MB, state {size >> 20} MB |",
+        f"peak {usage.ru_maxrss // 1024} MB, state {size >> 20} MB | "
+        f"the planner's {ordering:.1f} s, its peak {plans.ru_maxrss // 1024} MB |",
         flush=True,
     )
 
@@ -101,6 +108,7 @@ def main() -> int:
     """Runs the measure."""
     parser = argparse.ArgumentParser(description=__doc__)
     parser.add_argument("--files", type=int, default=1_000_000)
+    parser.add_argument("--planner", required=True, help="the built program wumpus-plan")
     parser.add_argument("folder", help="where the tree is made, which is left there")
     given = parser.parse_args()
     tree, store = Path(given.folder) / "tree", Path(given.folder) / "store"
@@ -111,7 +119,7 @@ def main() -> int:
         left.unlink()
     for what in ("first turn", "next turn", "the one after"):
         process = multiprocessing.get_context("spawn").Process(
-            target=turn, args=(what, tree, store)
+            target=turn, args=(what, tree, store, os.path.abspath(given.planner))
         )
         process.start()
         process.join()

@@ -1,9 +1,9 @@
 #!/usr/bin/env python3
-"""What the mirror and the service cost, over a real tree: `bench/service.py --wumpus PATH TREE`.
+"""What the mirror and the service cost, over a real tree.
 
-Needs root. Prints a table: turns of the mirror, answers a second for one and for 32 clients, the
-time from a changed file to an answer that knows it, and `rg` over the same tree as the same user,
-where it is installed.
+`bench/service.py --wumpus PATH --planner PATH TREE` needs root. Prints a table: turns of the
+mirror, answers a second for one and for 32 clients, the time from a changed file to an answer that
+knows it, and `rg` over the same tree as the same user, where it is installed.
 """
 
 import argparse
@@ -78,7 +78,9 @@ def client(sockets: Path, query: bytes, user: int, seconds: float) -> int:
 class Bench:
     """A service over a tree."""
 
-    def __init__(self, program: str, tree: str, folder: Path, seconds: float) -> None:
+    def __init__(
+        self, program: str, planner: str, tree: str, folder: Path, seconds: float
+    ) -> None:
         self.folder = folder
         self.seconds = seconds
         self.tree = tree
@@ -87,7 +89,7 @@ class Bench:
         self.store.mkdir(mode=0o700)
         self.sockets.mkdir(mode=0o755)
         places = ["--folder", str(self.store), "--sockets", str(self.sockets)]
-        self.mirror = [str(SERVICE / "wumpus-mirror"), *places]
+        self.mirror = [str(SERVICE / "wumpus-mirror"), *places, "--planner", planner]
         words = [str(SERVICE / "wumpusd"), *places, "--program", program]
         self.service = subprocess.Popen([*words, "--connections-of-user", "64"])
         time.sleep(1.0)
@@ -163,6 +165,7 @@ def main() -> int:
     """Runs the measure."""
     parser = argparse.ArgumentParser(description=__doc__)
     parser.add_argument("--wumpus", required=True, help="the built program")
+    parser.add_argument("--planner", required=True, help="the built program wumpus-plan")
     parser.add_argument("--word", default="memory", help="the word that is asked for")
     parser.add_argument("--seconds", type=float, default=10.0, help="of each row of answers")
     parser.add_argument("tree", help="a directory that is mirrored")
@@ -170,7 +173,8 @@ def main() -> int:
     where = None if "TMPDIR" in os.environ else "/var/tmp"  # names come and go in /tmp
     with tempfile.TemporaryDirectory(prefix="wumpus-bench-", dir=where) as name:
         os.chmod(name, 0o755)
-        bench = Bench(os.path.abspath(given.wumpus), given.tree, Path(name), given.seconds)
+        programs = os.path.abspath(given.wumpus), os.path.abspath(given.planner)
+        bench = Bench(*programs, given.tree, Path(name), given.seconds)
         try:
             rows(bench, given.word)
         finally:

@@ -1,5 +1,5 @@
 # The programs around wumpus: make install-service, make service-test, make deb. None is proved.
-# WUMPUS is the built program, and PREFIX and DESTDIR are those of the file that includes this one.
+# WUMPUS and PLANNER are the built programs, and PREFIX and DESTDIR are those of the file that includes this one.
 SERVICE_SBIN := wumpus-extract wumpus-mirror wumpusd wumpus-status wumpus-why
 SERVICE_BIN := wumpus-ask wumpus-web wumpus-lint
 SERVICE_PACKAGES := $(notdir $(patsubst %/,%,$(dir $(wildcard service/wumpus/*/__init__.py))))
@@ -81,8 +81,9 @@ install-service:
 		install -D -m 644 service/systemd/documents $(DESTDIR)$(SYSCONFDIR)/wumpus/documents
 
 # As root; without it, the tests that take on the ids of users say that they are skipped. Where no
-# program is built, and SERVICE_TEST_PROGRAM names none, the stand-in answers, and says so. Beside
-# other work what a test measures by the clock may be late: one that fails is run once more. They run
+# program is built, and SERVICE_TEST_PROGRAM names none, the stand-in answers, and says so; batches
+# are ordered by the wumpus-plan that was built with the program, or by its stand-in. Beside other
+# work what a test measures by the clock may be late: one that fails is run once more. They run
 # by the interpreter of the programs: another one may lie where a service without rights can't read.
 service-test:
 	@failed=0; \
@@ -109,13 +110,14 @@ service-check:
 	check zsh -n service/completions/_wumpus; \
 	exit $$failed
 
-# The package has the proved program. No network is used.
+# The package has the proved programs. No network is used.
 deb: all
 	@$(MAKE) --no-print-directory package
 
 package:
 	rm -rf out/deb
 	install -D -m 755 $(WUMPUS) out/deb/usr/bin/wumpus
+	install -D -m 755 $(PLANNER) out/deb/usr/bin/wumpus-plan
 	$(MAKE) --no-print-directory install-service DESTDIR=out/deb PREFIX=/usr \
 		UNITDIR=/lib/systemd/system
 	gzip -9n out/deb/usr/share/man/man*/*

@@ -1,7 +1,9 @@
 """What the tests of the service share."""
 
 import argparse
+import atexit
 import os
+import shutil
 import sys
 import tempfile
 import time
@@ -13,6 +15,8 @@ sys.path.insert(0, str(SERVICE))
 TOLD_EVERY = 15.0  # seconds
 BUILT = SERVICE.parent / "crates" / "wumpus" / "out" / "wumpus"
 STAND_IN = SERVICE / "tests" / "stand_in"
+BUILT_PLANNER = BUILT.parents[2] / "wumpus_plan" / "out" / "wumpus_plan"
+STAND_IN_PLANNER = SERVICE / "tests" / "stand_in_plan"
 
 
 class Score:
@@ -85,12 +89,41 @@ def needs_root(name: str) -> None:
 
 
 def needs_program(name: str, program: str) -> None:
-    """Ends a test where there is no program, and tells where the stand-in is to answer."""
+    """Ends a test where there is no program, and tells where the stand-in is to answer.
+
+    A mirror that is begun later finds the planner that was built or installed with the program.
+    """
     if program == str(STAND_IN):
         print(f"{name}: the stand-in answers, there is no program at {BUILT}", flush=True)
     if not os.access(program, os.X_OK):
         print(f"{name}: there is no program at {program}: make builds it")
         sys.exit(1)
+    put_planner(planner_of(program))
+
+
+def planner_of(program: str) -> str:
+    """The `wumpus-plan` that was built or installed with a program, or else the stand-in."""
+    path = Path(program)
+    built = path.parent.parent.parent / "wumpus_plan" / "out" / "wumpus_plan"
+    for planner in (built, path.with_name("wumpus-plan"), BUILT_PLANNER):
+        if os.access(planner, os.X_OK):
+            return str(planner)
+    return str(STAND_IN_PLANNER)
+
+
+def put_planner(planner: str) -> None:
+    """Has each mirror that is begun from now on find this program as `wumpus-plan`."""
+    folder = tempfile.mkdtemp(prefix="wumpus-planner-")
+    os.chmod(folder, 0o755)
+    os.symlink(planner, f"{folder}/wumpus-plan")
+    os.environ["PATH"] = f"{folder}:{os.environ.get('PATH', os.defpath)}"
+    atexit.register(_remove, folder, os.getpid())
+
+
+def _remove(folder: str, process: int) -> None:
+    """Removes a folder at the end of the process that made it, and not at that of a child."""
+    if os.getpid() == process:
+        shutil.rmtree(folder, ignore_errors=True)
 
 
 def folder_of_own() -> tempfile.TemporaryDirectory[str]:

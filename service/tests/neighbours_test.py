@@ -30,7 +30,7 @@ from service_test import (
 
 from wumpus.mirror import mounts, users  # isort: skip
 from wumpus.shared import store  # isort: skip
-from wumpus.mirror.plan import Groups  # isort: skip
+from wumpus.mirror.changes import Groups  # isort: skip
 from wumpus.mirror.budget import Accounts, Budget  # isort: skip
 from wumpus.mirror.remarks import Remarks  # isort: skip
 from wumpus.mirror.turn import Mirror, Wish  # isort: skip

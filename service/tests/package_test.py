@@ -17,7 +17,7 @@ from harness import Score, needs_root
 from service_test import wait_for
 
 LEFT = (
-    "usr/bin/wumpus", "usr/bin/wumpus-ask", "usr/sbin/wumpusd", "usr/share/wumpus",
+    "usr/bin/wumpus", "usr/bin/wumpus-plan", "usr/bin/wumpus-ask", "usr/sbin/wumpusd", "usr/share/wumpus",
     "etc/default/wumpus", "etc/wumpus/excludes", "var/lib/wumpus", "var/lib/wumpus-mirror",
     "lib/systemd/system/wumpusd.service", "usr/share/doc/wumpus",
 )  # fmt: skip
@@ -69,6 +69,8 @@ def installed(root: Root, package: Path, score: Score) -> None:
     for program in PROGRAMS:
         status, told = root.run(program, "--version")
         score.check(status == 0 and program in told, f"{program} --version: {told}")
+    status, told = root.run("sh", "-c", "printf 'batch\\t0\\t0\\n' | /usr/bin/wumpus-plan")
+    score.check((status, told) == (0, "plan\t0\t0\n"), f"wumpus-plan: {told}")
 
 
 def used(root: Root, score: Score) -> None:

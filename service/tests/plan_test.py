@@ -1,25 +1,31 @@
-"""The order of a batch, over random pairs of trees.
+"""The order of a batch by `wumpus-plan`, over random pairs of trees.
 
 Each line is carried out on a small model of the program's tree: none may be refused, the last tree
 is the new one, and between two lines nobody sees a path, or a text, that she sees neither before
-nor after the batch. So a batch may be cut after each line. What wasn't seen is kept, and nobody is
-shown what is behind a name that is kept.
+nor after the batch. So a batch may be cut after each line. While texts are given nobody sees a file
+that is given one. What wasn't seen is kept, and nobody is shown what is behind a name that is kept. The lines are those of a plain model of the order, too.
 """
 
 import random
 import sys
-from collections.abc import Callable
-from dataclasses import dataclass, field
+from dataclasses import dataclass, field, replace
 
-from harness import Score, options
+from harness import Pace, Score, absolute, options, planner_of
+from model import plans
 
+from wumpus.mirror.changes import (  # isort: skip
+    Groups,
+    Told,
+    told_of_pairs,
+    told_of_trees,
+)
 from wumpus.mirror.keep import Top, keep  # isort: skip
 from wumpus.mirror.nodes import CLOSED, ROOT, Node, Rights, Tree  # isort: skip
-from wumpus.mirror.plan import Groups, Plan, plan_all  # isort: skip
+from wumpus.mirror.planner import BadPlan, Plan, Planner  # isort: skip
 from wumpus.shared.script import unescape  # isort: skip
 
 USERS = (5, 6, 7, 8)
-Planning = Callable[[Tree, Tree, Groups, Groups], Plan]
+NAMES = (b"a", b"b", b"c", b"d", b"e\t", b"\n", b"\\n\\", b"\xff\r\x01 ", b"." * 200)
 
 
 @dataclass
@@ -168,13 +174,15 @@ def some_tree(draw: random.Random, old: Tree, following: int) -> tuple[Tree, int
     for node in kept:
         for _ in range(1 if node.is_directory else draw.choice((1, 1, 1, 2, 3))):
             names = tree.entries[draw.choice(placed)]
-            name = draw.choice((b"a", b"b", b"c", b"d", b"e\t", b"%d" % node.number))
+            name = draw.choice((*NAMES, b"%d" % node.number))
             while name in names:
                 name += b"x"
             names[name] = node.number
         if node.is_directory:
             placed.append(node.number)
-    return tree, following
+    entries = list(tree.entries.items())
+    draw.shuffle(entries)
+    return Tree(tree.nodes, dict(entries)), following
 
 
 def reached(tree: Tree) -> Tree:
@@ -237,12 +245,34 @@ def lines_of(plan: Plan, old: Tree, new: Tree) -> list[bytes | tuple[int, bytes]
     return [*plan.head, *texts, *plan.tail]
 
 
-def round_of(
-    model: Model, old: Tree, new: Tree, users: Groups, planned: Planning = plan_all
-) -> None:
+def planned(planner: Planner, told: Told) -> Plan:
+    """The program's plan, which has the lines of the model in the same order."""
+    nodes = list(told.nodes)
+    plan = planner.order(Told(told.users, told.count, iter(nodes)))
+    assert (plan.head, plan.tail) == plans.plan(told.users, nodes), "other lines"
+    return plan
+
+
+def groups_in(model: Model) -> Groups:
+    """The groups of each user."""
+    return {user: tuple(sorted(groups)) for user, groups in model.groups.items()}
+
+
+def some_slice(draw: random.Random, tree: Tree) -> tuple[Tree, Told]:
+    """The tree with other texts and rights of some files, and what is told of them."""
+    files = [node for node in tree.nodes.values() if not node.is_directory]
+    chosen = [node for node in files if draw.random() < 0.4]
+    pairs = []
+    for node in chosen:
+        text = node.digest if draw.random() < 0.5 else b"%d" % draw.randrange(3)
+        rights = node.rights if draw.random() < 0.3 else some_rights(draw)
+        pairs.append((node, replace(node, rights=rights, digest=text)))
+    nodes = tree.nodes | {after.number: after for _, after in pairs}
+    return Tree(nodes, tree.entries), told_of_pairs(pairs)
+
+
+def round_of(model: Model, old: Tree, new: Tree, users: Groups, plan: Plan) -> None:
     """Carries out one batch, and looks at each moment of it."""
-    before_users = {user: tuple(sorted(groups)) for user, groups in model.groups.items()}
-    plan = planned(old, new, before_users, users)
     seen = [model.seen()]
     for line in lines_of(plan, old, new):
         if isinstance(line, bytes):
@@ -252,6 +282,10 @@ def round_of(
         seen.append(model.seen())
     for moment in seen:
         assert moment <= seen[0] | seen[-1], moment - (seen[0] | seen[-1])
+    texted = {line[0] for line in lines_of(plan, old, new) if not isinstance(line, bytes)}
+    for moment in seen[len(plan.head) : len(plan.head) + len(texted) + 1]:
+        shown = {number for _, number, _ in moment}
+        assert not texted or not shown & texted, "a file is shown that is given a text"
     assert model.entries.pop(CLOSED) == {}
     del model.entries[ROOT][b"closed"]
     assert model.entries == new.entries
@@ -264,8 +298,8 @@ def round_of(
     assert {user: tuple(sorted(model.groups.get(user, ()))) for user in users} == users
 
 
-def history(seed: int, planned: Planning = plan_all) -> None:
-    """Twelve batches, one after the other."""
+def history(seed: int, planner: Planner) -> None:
+    """Twelve batches, one after the other, and after each a slice of files that were looked at."""
     draw = random.Random(seed)
     model = Model({ROOT: Rights(0o755, 0, 0), CLOSED: Rights(0, 0, 0)}, {}, {})
     model.entries = {ROOT: {b"closed": CLOSED}, CLOSED: {}}
@@ -279,23 +313,30 @@ def history(seed: int, planned: Planning = plan_all) -> None:
             new, tops = unseen(draw, tree, new)
         if not users or draw.random() < 0.2:
             users = {user: tuple(g for g in (20, 21, 22) if draw.random() < 0.5) for user in USERS}
-        round_of(model, tree, new, users, planned)
+        told = told_of_trees(tree, new, groups_in(model), users)
+        round_of(model, tree, new, users, planned(planner, told))
         assert not shown_through(model, tops), "what is kept is shown"
-        tree = new
+        tree, told = some_slice(draw, new)
+        round_of(model, new, tree, users, planned(planner, told))
 
 
 def main() -> int:
-    """Runs the test; it needs no program."""
+    """Runs the test; where no `wumpus-plan` is built, the stand-in orders."""
     parser = options(__doc__ or "")
-    parser.add_argument("--histories", type=int, default=400)
+    parser.add_argument("--histories", type=int, default=2000)
+    parser.add_argument("--planner", type=absolute)
     given = parser.parse_args()
     score = Score("plan")
+    pace = Pace("plan", given.histories, "histories")
+    planner = Planner(given.planner or planner_of(given.program))
     for seed in range(given.seed, given.seed + given.histories):
         try:
-            history(seed)
+            history(seed, planner)
             score.check(True, "")
-        except (AssertionError, KeyError) as error:
+        except (AssertionError, KeyError, BadPlan) as error:
             score.check(False, f"history {seed}: {type(error).__name__} {error}")
+        pace.tell(seed - given.seed)
+    planner.close()
     return score.end()
 
 

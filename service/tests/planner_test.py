@@ -1,22 +1,37 @@
-"""The program `wumpus-plan` beside the mirror's own planner, over random pairs of trees.
+"""The program `wumpus-plan` as the mirror keeps it, and what becomes of a turn that has no plan.
 
-Both tell the same lines before the texts and after them, in whatever order; each line of the
-program's is carried out on a model of the tree, as `plan_test.py` has it. Bad input gets one line
-that says what is wrong and where, status 1, and no event.
+Bad input gets one line that says what is wrong and where, status 1, and no event. Where the program
+isn't there, ends, or says something else, a turn fails and nothing is fed; the next one begins it
+again. After a large batch it is ended, since it keeps the memory that it took.
 """
 
+import os
 import subprocess
 import sys
+from collections.abc import Iterator
+from dataclasses import replace
 from pathlib import Path
+from unittest import mock
 
-from harness import BUILT, Pace, Score, absolute, options
-from plan_test import Planning, history
+from harness import (
+    STAND_IN_PLANNER,
+    Score,
+    absolute,
+    folder_of_own,
+    needs_program,
+    options,
+    planner_of,
+)
+from mirror_test import Place
 
-from wumpus.mirror.nodes import Tree  # isort: skip
-from wumpus.mirror.plan import Groups, Plan, plan_all  # isort: skip
-from wumpus.mirror.planner import BadPlan, Planner  # isort: skip
-
-BUILT_PLANNER = BUILT.parents[2] / "wumpus_plan" / "out" / "wumpus_plan"
+from wumpus.mirror import planner as planner_module  # isort: skip
+from wumpus.mirror.changes import Pairs, Told, told_of_pairs  # isort: skip
+from wumpus.mirror.limits import Limits  # isort: skip
+from wumpus.mirror.nodes import Node, Rights  # isort: skip
+from wumpus.mirror.planner import BadPlan, Plan, Planner  # isort: skip
+from wumpus.mirror.reach import Direct  # isort: skip
+from wumpus.mirror.turn import Mirror, Wish  # isort: skip
+from wumpus.shared.progress import Progress  # isort: skip
 
 FILE = "stays 4 file 644 same other 0"
 
@@ -97,22 +112,6 @@ BAD: tuple[tuple[str, bytes, str], ...] = (
 )
 
 
-def same_lines(plan: Plan, other: Plan) -> bool:
-    """Whether both have the same lines on each side of the texts."""
-    return sorted(plan.head) == sorted(other.head) and sorted(plan.tail) == sorted(other.tail)
-
-
-def compared(planner: Planner) -> Planning:
-    """The program's plan, which has to have the same lines as the mirror's own."""
-
-    def planned(old: Tree, new: Tree, old_users: Groups, new_users: Groups) -> Plan:
-        plan = planner.plan(old, new, old_users, new_users)
-        assert same_lines(plan, plan_all(old, new, old_users, new_users)), "other lines"
-        return plan
-
-    return planned
-
-
 def check_bad_input(score: Score, program: str) -> None:
     """Each bad batch alone, and behind a good one, which is answered."""
     for name, given, told in BAD:
@@ -124,31 +123,179 @@ def check_bad_input(score: Score, program: str) -> None:
             score.check(holds, f"{name}: {error!r} {ran.stdout!r}")
 
 
-def main() -> int:
-    """Runs the test; it needs the program `wumpus-plan`."""
-    parser = options(__doc__ or "")
-    parser.add_argument("--histories", type=int, default=400)
-    parser.add_argument("--planner", type=absolute, default=str(BUILT_PLANNER))
-    given = parser.parse_args()
-    score = Score("planner")
-    if not Path(given.planner).exists():
-        score.check(False, f"{given.planner} isn't built")
-        return score.end()
-    pace = Pace("planner", given.histories, "histories")
-    planner = Planner(given.planner)
-    for seed in range(given.seed, given.seed + given.histories):
-        try:
-            history(seed, compared(planner))
-            score.check(True, "")
-        except (AssertionError, KeyError) as error:
-            score.check(False, f"history {seed}: {type(error).__name__} {error}")
-        except BadPlan as error:
-            score.check(False, f"history {seed}: {error}")
-            planner.close()
-            planner = Planner(given.planner)
-        pace.tell(seed - given.seed)
+# ---- the client
+
+# Programs that aren't wumpus-plan, and what is said of them.
+WRONG = (
+    ("exit 3", "status 3"),
+    ("kill -9 $$", "status -9"),
+    ("echo told >&2; exit 1", "told"),
+    ("head -n 3; exit 0", "status 0"),
+    ("read line; echo 'plan\t1'; exit 0", "status 0"),
+    ("read line; echo 'plan\t1\tx'; exit 0", "status 0"),
+    ("read line; echo 'plan\t-1\t1'; exit 0", "status 0"),
+    ("read line; echo 'plan\t2\t0'; echo 'chmod\t4\t000'; exit 0", "status 0"),
+    ("read line; echo 'plan\t1\t1'; echo 'chmod\t4\t000'; printf 'chmod\t4'", "status 0"),
+    ("read line; echo 'plan\t999999999999\t0'; exit 0", "status 0"),
+)
+
+
+def file_of(number: int) -> Node:
+    """A file that everybody may read."""
+    return Node(number, False, Rights(0o644, 5, 5), b"", 0, 1, 0)
+
+
+def told(count: int = 1) -> Told:
+    """A batch of so many files with other rights."""
+    nodes = [file_of(4 + place) for place in range(count)]
+    return told_of_pairs([(one, replace(one, rights=Rights(0o600, 5, 5))) for one in nodes])
+
+
+def failing() -> Iterator[bytes]:
+    """Lines that end in the midst."""
+    yield b"goes\t4\tfile\t1\n"
+    raise KeyError("in the midst")
+
+
+def fails(planner: Planner, what: Told) -> str:
+    """What is said where there is no plan; empty where there is one."""
+    try:
+        planner.order(what)
+    except BadPlan as error:
+        return str(error)
+    return ""
+
+
+def client(score: Score, program: str, folder: Path) -> None:
+    """The program is kept, and begun again; what isn't a plan is none."""
+    due = Plan([b"chmod\t4\t600\n"], [])
+    planner = Planner(program)
+    score.check(planner.order(Told([], 0, iter([]))) == Plan([], []), "nothing to be ordered")
+    score.check(planner.child is None, "for nothing a program was begun")
+    score.check(planner.order(told()) == due, "a plan")
+    child = planner.child
+    score.check(planner.order(told()) == due and planner.child is child, "it isn't kept")
+    assert child is not None
+    child.kill()
+    child.wait()
+    score.check(planner.order(told()) == due, "it isn't begun again")
+    try:
+        planner.order(Told([], 2, failing()))
+    except KeyError:
+        pass
+    score.check(planner.child is None, "it is kept with half a batch")
+    score.check(planner.order(told()) == due, "after half a batch")
+    with mock.patch.object(planner_module, "LARGE", 10):
+        score.check(len(planner.order(told(10)).head) == 10, "ten nodes")
+        score.check(planner.child is not None, "it is ended after few nodes")
+        score.check(len(planner.order(told(11)).head) == 11, "eleven nodes")
+        score.check(planner.child is None, "it is kept after many nodes")
+    listed = replace(file_of(4), rights=Rights(0o640, 5, 5, b"g::4,m::6"))
+    plan = planner.order(told_of_pairs([(file_of(4), listed)]))
+    score.check(b"acl\t4\tg::4,m::4\n" in plan.tail, f"the mask is the mode's: {plan.tail}")
     planner.close()
-    check_bad_input(score, given.planner)
+    planner.close()
+    for place, (script, said) in enumerate(WRONG):
+        wrong = Planner(str(program_of(folder / f"wrong{place}", script)))
+        found = fails(wrong, told())
+        score.check(said in found and wrong.child is None, f"{script}: {found!r}")
+    found = fails(Planner("/nonexistent"), told())
+    score.check(found == "/nonexistent can't be run: No such file or directory", found)
+
+
+def program_of(path: Path, script: str) -> Path:
+    """A program of the shell."""
+    path.write_text(f"#!/bin/sh\n{script}\n")
+    path.chmod(0o755)
+    return path
+
+
+# ---- turns
+
+MARK = "a planner that failed"
+ASKED = b"paths\t5\n"
+
+
+def turns(score: Score, program: str, folder: Path) -> None:
+    """A turn without a plan feeds nothing; the next one, with a plan, feeds all."""
+    place = Place(folder, program)
+    (place.tree / "a").write_text("apple\n")
+    ways: list[tuple[str, str]] = [
+        ("isn't there", "/nonexistent"),
+        ("ends", str(program_of(folder / "ends", f"echo {MARK} >&2; exit 1"))),
+        ("tells half", str(program_of(folder / "half", "read line; echo 'plan\t9\t9'; exit 0"))),
+    ]
+    for what, planner in ways:
+        status, _, said = place.mirror("--planner", planner)
+        is_told = MARK in said or planner in said or "status 0" in said
+        score.check(status == 2 and is_told and said.count("\n") == 1, f"{what}: {status} {said}")
+        score.check(place.paths() == [], f"{what}: {place.paths()}")
+        files = [one for one in ("mirror.state", "mirror.next") if (place.store / one).exists()]
+        score.check(files == [], f"{what}: {files}")
+    status, _, said = place.mirror()
+    score.check((status, place.paths()) == (0, ["a"]), f"with a plan: {said}")
+    shown = place.ask(ASKED)
+    score.check(shown[0] == b"paths\t1", f"what she is shown: {shown}")
+    status, _, said = place.mirror("--planner", "/nonexistent")
+    score.check(status == 2, f"nothing changed, and no planner: {status} {said}")
+    os.chmod(place.tree / "a", 0o600)
+    for what, planner in ways:
+        status, _, said = place.mirror("--planner", planner)
+        score.check((status, place.ask(ASKED)) == (2, shown), f"later, {what}: {status} {said}")
+        status, out, said = place.mirror("--planner", planner, "--dry-run")
+        score.check((status, out) == (2, b""), f"dry, {what}: {out!r}")
+    status, _, said = place.mirror()
+    found = place.ask(ASKED)
+    score.check((status, found) == (0, [b"paths\t0"]), f"later, with a plan: {found} {said}")
+
+
+class Once(Planner):
+    """Has a plan for names and rights, and none for a slice of files."""
+
+    def plan_nodes(self, pairs: Pairs) -> Plan:
+        """Raises `BadPlan`."""
+        raise BadPlan(MARK)
+
+
+def slices(score: Score, program: str, planner: str, folder: Path) -> None:
+    """A slice of files without a plan isn't fed, and neither is its text."""
+    tree, store = folder / "slices", folder / "store-of-slices"
+    tree.mkdir()
+    store.mkdir(mode=0o700)
+    (tree / "a").write_text("apple\n")
+    wish = Wish((os.fsencode(tree),), Limits(), {})
+    for one, told_of, due in ((Once(planner), MARK, b"0\t0"), (Planner(planner), "", b"1\t1")):
+        reach = Direct(program, store)
+        mirror = Mirror(reach, store, Progress("test", True), planner=one)
+        mirror.begin(False)
+        try:
+            mirror.turn(wish)
+            failed = ""
+        except BadPlan as error:
+            failed = str(error)
+        found = reach.ask(b'count\t5\t"apple"\n')
+        score.check((failed, found) == (told_of, b"count\t" + due), f"slices: {failed} {found!r}")
+        one.close()
+        reach.close()
+
+
+def main() -> int:
+    """Runs the test; bad input is given to a `wumpus-plan` that is built."""
+    parser = options(__doc__ or "")
+    parser.add_argument("--planner", type=absolute)
+    given = parser.parse_args()
+    needs_program("planner", given.program)
+    score = Score("planner")
+    planner = given.planner or planner_of(given.program)
+    if planner == str(STAND_IN_PLANNER):
+        print("planner: no wumpus-plan is built: bad input isn't tried", flush=True)
+    else:
+        check_bad_input(score, planner)
+    with folder_of_own() as name:
+        folder = Path(name)
+        client(score, planner, folder)
+        turns(score, given.program, folder)
+        slices(score, given.program, planner, folder)
     return score.end()
 
 

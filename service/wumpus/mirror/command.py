@@ -24,8 +24,9 @@ from ..shared.progress import Progress, plain
 from ..shared.store import CONTROL, FOLDER, SOCKETS, Busy, Failed, check_own, only_one
 from .access import Access
 from .budget import Budget
+from .changes import Groups
 from .nodes import Identity, identity_of
-from .plan import Groups
+from .planner import PROGRAM, Planner
 from .reach import Direct, Served, Unanswered
 from .state import BadState
 from .status import StatusFile
@@ -60,6 +61,7 @@ def parser() -> argparse.ArgumentParser:
     add("roots", nargs="*", metavar="ROOT", help="a directory to mirror with all below it")
     add("--folder", default=FOLDER, metavar="DIR", help=f"the folder of the store ({FOLDER})")
     add("--program", default="wumpus", metavar="PATH", help="the program (wumpus)")
+    add("--planner", default=PROGRAM, metavar="PATH", help=f"it orders batches ({PROGRAM})")
     add("--sockets", default=SOCKETS, metavar="DIR", help=f"of the service ({SOCKETS})")
     add("--exclude", action="append", default=[], metavar="PATTERN",
         help="leave out names that fit, or with a / paths; may be given again")  # fmt: skip
@@ -203,10 +205,11 @@ class Session:
     def _run(self) -> None:
         """Does it. Raises the `FAILURES`."""
         reach = reach_of(self.given, self.folder)
+        planner = Planner(self.given.planner)
         is_whole = False
         try:
             self.users = users_of(self.given, reach, self.progress.warn)
-            mirror = Mirror(reach, self.folder, self.progress, self.watch.pulse)
+            mirror = Mirror(reach, self.folder, self.progress, self.watch.pulse, planner)
             self.watch.mirror = mirror
             mirror.begin(self.given.anew, self.given.dry_run)
             self.given.anew = False
@@ -219,6 +222,7 @@ class Session:
             is_whole = True
             raise
         finally:
+            planner.close()
             if is_whole:
                 reach.close()
             else:

@@ -10,8 +10,9 @@ from ..shared.progress import Progress
 from ..shared.script import spell
 from ..shared.store import Failed
 from .batch import SAVE, Batch, Texts, begin, end, question
-from .nodes import MARK, ROOT, Node, Tree
-from .plan import Groups, Pairs, Plan, plan_all, plan_nodes
+from .changes import Groups, Pairs
+from .nodes import MARK, ROOT, Tree
+from .planner import Plan, Planner
 from .reach import NoMemory, Reach
 from .state import Addition, BadState, Files, State, apply, new_serial, read_state
 
@@ -21,9 +22,12 @@ LINES_AT_LEAST = 1000  # of a piece of a batch for which memory is short
 class Feeder:
     """The program, and `state`: what it has. `files` has the state between two runs."""
 
-    def __init__(self, reach: Reach, folder: Path, progress: Progress) -> None:
+    def __init__(
+        self, reach: Reach, folder: Path, progress: Progress, planner: Planner
+    ) -> None:
         self.reach = reach
         self.folder = folder
+        self.planner = planner
         self.files = Files(folder)
         self.progress = progress
         self.state = State()
@@ -36,6 +40,7 @@ class Feeder:
 
         Where that isn't known all is fed anew; before a dry run nothing is moved aside for it.
         """
+        self.planner.start()
         found = None if anew else self._stand()
         if found is None:
             if not dry:
@@ -96,9 +101,12 @@ class Feeder:
     # ---- batches
 
     def feed_tree(self, tree: Tree, users: Groups, following: int, unlisted: bool) -> None:
-        """Brings the program to a tree and users: names and rights in one batch, and no text."""
+        """Brings the program to a tree and users: names and rights in one batch, and no text.
+
+        Raises `Failed`, also where there is no plan: then nothing is fed.
+        """
         old = self.state
-        plan = plan_all(old.tree, tree, old.users, users)
+        plan = self.planner.plan(old.tree, tree, old.users, users)
         new = State(old.serial, tree, users, following, old.lists, unlisted, old.complete)
         nodes = old.tree.nodes
         changed = [node for number, node in tree.nodes.items() if nodes.get(number) is not node]
@@ -121,9 +129,12 @@ class Feeder:
         self.state = new
 
     def feed_texts(self, pairs: Pairs, texts: Texts) -> None:
-        """Brings some files to other texts and rights; no name changes. Raises `NoMemory`."""
+        """Brings some files to other texts and rights; no name changes.
+
+        Raises `NoMemory`, and `Failed`, also where there is no plan: then nothing is fed.
+        """
         before = self.state.serial
-        plan = plan_nodes(pairs)
+        plan = self.planner.plan_nodes(pairs)
         is_fed = not plan.is_empty() or texts.count > 0
         nodes = [after for before, after in pairs if before != after]
         addition = Addition(new_serial(before) if is_fed else before, nodes)

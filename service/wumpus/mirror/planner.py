@@ -1,171 +1,140 @@
 """The program `wumpus-plan` as a child that orders batches, one after the other over its pipes.
 
 What a batch changes goes in as lines, which `crates/wumpus_plan/README.md` tells; the events come
-back as lines of the script. The program keeps nothing from one batch to the next.
+back as lines of the script. That the order shows nobody more than before or after is proved there:
+here it is only passed on. The program keeps nothing from one batch to the next.
 """
 
+import re
 import subprocess
-from collections.abc import Iterator
+from dataclasses import dataclass
+from itertools import islice
+from typing import IO
 
-from ..shared.script import spell, spell_mode
-from .nodes import ROOT, Node, Rights, Tree
-from .plan import Changes, Groups, Plan, changed_nodes, changes_of, count_kept, set_users
+from ..shared.store import Failed
+from .changes import Groups, Pairs, Told, told_of_pairs, told_of_trees
+from .nodes import Tree
 
-Place = tuple[int, bytes]  # a directory, and a name in it
+PROGRAM = "wumpus-plan"
+LARGE = 20_000  # nodes of a batch after which the program is ended, as it keeps its memory
+END_SECONDS = 10.0
+_COUNTS = re.compile(rb"plan\t([0-9]{1,12})\t([0-9]{1,12})\n")
 
 
-class BadPlan(Exception):
-    """The program ended, or answered something else than a plan; the text says what."""
+class BadPlan(Failed):
+    """There is no plan: the program isn't there, ended, or answered something else."""
+
+
+@dataclass(slots=True)
+class Plan:
+    """The lines of a batch: those before the texts, and those after them."""
+
+    head: list[bytes]
+    tail: list[bytes]
+
+    def is_empty(self) -> bool:
+        """Whether nothing is to be done."""
+        return not self.head and not self.tail
 
 
 class Planner:
-    """One `wumpus-plan`, which is kept from batch to batch."""
+    """One `wumpus-plan`, which is kept from batch to batch. After a failure the next is begun."""
 
-    def __init__(self, program: str) -> None:
-        self.child = subprocess.Popen(
-            [program], stdin=subprocess.PIPE, stdout=subprocess.PIPE, stderr=subprocess.PIPE
-        )
+    def __init__(self, program: str = PROGRAM) -> None:
+        self.program = program
+        self.child: subprocess.Popen[bytes] | None = None
 
     def plan(self, old: Tree, new: Tree, old_users: Groups, new_users: Groups) -> Plan:
-        """From one tree with its users to another. Raises `BadPlan`."""
-        users = set_users(old_users, new_users)
-        changes = changes_in(old, new, bool(users))
-        return self.order([spell(b"batch", len(users), len(changes)), *users], changes)
+        """From one tree with its users to another; the texts come in between. Raises `BadPlan`."""
+        return self.order(told_of_trees(old, new, old_users, new_users))
 
-    def order(self, head: list[bytes], changes: list[list[bytes]]) -> Plan:
-        """Hands over the lines of a batch. Raises `BadPlan`."""
-        assert self.child.stdin is not None and self.child.stdout is not None
+    def plan_nodes(self, pairs: Pairs) -> Plan:
+        """From some nodes to what they are now; no name changes. Raises `BadPlan`."""
+        return self.order(told_of_pairs(pairs))
+
+    def order(self, told: Told) -> Plan:
+        """The order of a batch. Raises `BadPlan`; then nothing of the plan is given."""
+        if not told.users and told.count == 0:
+            return Plan([], [])
+        child = self.start()
         try:
-            self.child.stdin.writelines(head)
-            for lines in changes:
-                self.child.stdin.writelines(lines)
-            self.child.stdin.flush()
-        except BrokenPipeError as error:
-            raise BadPlan(self._last_words()) from error
-        fields = self.child.stdout.readline().rstrip(b"\n").split(b"\t")
-        if len(fields) != 3 or fields[0] != b"plan":
-            raise BadPlan(self._last_words())
-        counts = [int(field) for field in fields[1:]]
-        return Plan(self._lines(counts[0]), self._lines(counts[1]))
+            plan = _ordered(child, told)
+        except BaseException:
+            self._kill()
+            raise
+        if told.count > LARGE:
+            self.close()
+        return plan
 
-    def _lines(self, count: int) -> list[bytes]:
-        assert self.child.stdout is not None
-        lines = [self.child.stdout.readline() for _ in range(count)]
-        if lines and not lines[-1].endswith(b"\n"):
-            raise BadPlan(self._last_words())
-        return lines
-
-    def _last_words(self) -> str:
-        """What the program says of its end, which is waited for."""
-        _, told = self.child.communicate()
-        return told.decode("utf-8", "replace").strip() or f"status {self.child.returncode}"
+    def start(self) -> subprocess.Popen[bytes]:
+        """The program, which is begun where it doesn't run. Raises `BadPlan`."""
+        if self.child is not None and self.child.poll() is not None:
+            self._kill()
+        if self.child is None:
+            pipe = subprocess.PIPE
+            try:
+                self.child = subprocess.Popen(
+                    [self.program], stdin=pipe, stdout=pipe, stderr=pipe
+                )
+            except OSError as error:
+                raise BadPlan(f"{self.program} can't be run: {error.strerror}") from error
+        return self.child
 
     def close(self) -> None:
-        """Ends the program."""
-        if self.child.stdin is not None:
-            self.child.stdin.close()
-        self.child.wait()
-        for stream in (self.child.stdout, self.child.stderr):
-            if stream is not None:
-                stream.close()
+        """Ends the program, if it runs: it ends where its input does."""
+        if self.child is not None:
+            try:
+                _pipe(self.child.stdin).close()
+                self.child.wait(END_SECONDS)
+            except (BrokenPipeError, subprocess.TimeoutExpired):
+                pass
+            self._kill()
+
+    def _kill(self) -> None:
+        """Ends the program at once; nothing is lost by that."""
+        child, self.child = self.child, None
+        if child is None:
+            return
+        child.kill()
+        child.wait()
+        for pipe in (child.stdin, child.stdout, child.stderr):
+            try:
+                _pipe(pipe).close()
+            except BrokenPipeError:
+                pass
 
 
-def changes_in(old: Tree, new: Tree, users_change: bool) -> list[list[bytes]]:
-    """The lines of each node of which something changes, directories in the order of the program.
-
-    Each directory stands behind the one in which it comes to stand, or stood where it goes.
-    """
-    changes = changes_of(old, new)
-    kept = count_kept(new, changes)
-    numbers = dict.fromkeys(changes.going) | dict.fromkeys(changes.coming)
-    numbers |= dict.fromkeys(after.number for _, after in changed_nodes(old, new))
-    if users_change:
-        numbers[ROOT] = None
-    described = []
-    for number in _in_order(list(numbers), old, new, changes):
-        going, coming = changes.going.get(number, []), changes.coming.get(number, [])
-        before, after = old.nodes.get(number), new.nodes.get(number)
-        if after is None:
-            described.append(_gone(old.nodes[number], going))
-        elif before is None:
-            described.append(_made(after, coming))
-        else:
-            keeps_name = _keeps_name(after, going, coming, kept[number])
-            described.append(_staying(before, after, going, coming, keeps_name))
-    return described
+def _ordered(child: subprocess.Popen[bytes], told: Told) -> Plan:
+    """Hands a batch over, and reads the plan: all of it, or `BadPlan` is raised."""
+    into, out = _pipe(child.stdin), _pipe(child.stdout)
+    try:
+        into.write(b"batch\t%d\t%d\n" % (len(told.users), told.count))
+        into.writelines(told.users)
+        into.writelines(told.nodes)
+        into.flush()
+    except BrokenPipeError as error:
+        raise _end_of(child) from error
+    counts = _COUNTS.fullmatch(out.readline())
+    if counts is None:
+        raise _end_of(child)
+    head, tail = (list(islice(out, int(count))) for count in counts.groups())
+    is_whole = (len(head), len(tail)) == tuple(map(int, counts.groups()))
+    if not is_whole or not all(lines[-1].endswith(b"\n") for lines in (head, tail) if lines):
+        raise _end_of(child)
+    return Plan(head, tail)
 
 
-def _in_order(numbers: list[int], old: Tree, new: Tree, changes: Changes) -> list[int]:
-    """The same numbers: directories that are there after the batch, those that go, and files."""
-    there = [number for number in numbers if number in new.entries]
-    gone = [number for number in numbers if number in old.entries and number not in new.entries]
-    files = [one for one in numbers if one not in new.entries and one not in old.entries]
-    if any(number in changes.coming for number in there):
-        depths = new.depths()
-        there.sort(key=lambda number: depths[number])
-    if gone:
-        depths = old.depths()
-        gone.sort(key=lambda number: depths[number])
-    return [*there, *gone, *files]
+def _end_of(child: subprocess.Popen[bytes]) -> BadPlan:
+    """What the program says of its end; one that goes on all the same is killed."""
+    try:
+        _, said = child.communicate(timeout=END_SECONDS)
+    except (subprocess.TimeoutExpired, ValueError, OSError):
+        return BadPlan("wumpus-plan answered something else than a plan")
+    last = said.decode("utf-8", "replace").strip()
+    return BadPlan(last or f"wumpus-plan ended with status {child.returncode}")
 
 
-def _keeps_name(node: Node, going: list[Place], coming: list[Place], kept: int) -> bool:
-    """Whether a node that stays has a name before the batch and after it; the root counts so."""
-    if node.is_directory:
-        return not going and not coming
-    return not going or kept > 0
-
-
-def _kind(node: Node) -> bytes:
-    return b"directory" if node.is_directory else b"file"
-
-
-def _gone(node: Node, going: list[Place]) -> list[bytes]:
-    lines = [spell(b"goes", node.number, _kind(node), len(going))]
-    lines += [spell(b"unlink", *place) for place in going]
-    return lines
-
-
-def _made(node: Node, coming: list[Place]) -> list[bytes]:
-    rights = node.rights
-    command = b"mkdir" if node.is_directory else b"create"
-    mode = spell_mode(rights.mode)
-    further = [
-        spell(command, node.number, *coming[0], rights.owner, rights.group, mode),
-        *(spell(b"link", node.number, *place) for place in coming[1:]),
-    ]
-    if rights.entries:
-        further.append(spell(b"acl", node.number, rights.entries))
-    text = b"text" if node.digest else b"same"
-    return [spell(b"made", node.number, _kind(node), text, len(further)), *further]
-
-
-def _staying(
-    before: Node, after: Node, going: list[Place], coming: list[Place], keeps_name: bool
-) -> list[bytes]:
-    further = [
-        *_rights_changed(after.number, before.rights, after.rights),
-        *(spell(b"unlink", *place) for place in going),
-        *(spell(b"link", after.number, *place) for place in coming),
-    ]
-    text = b"text" if before.digest != after.digest else b"same"
-    head = spell(
-        b"stays",
-        after.number,
-        _kind(after),
-        spell_mode(before.rights.mode),
-        text,
-        b"other" if keeps_name else b"none",
-        len(further),
-    )
-    return [head, *further]
-
-
-def _rights_changed(number: int, before: Rights, after: Rights) -> Iterator[bytes]:
-    """What is told of rights that aren't the same."""
-    if before.mode != after.mode:
-        yield spell(b"chmod", number, spell_mode(after.mode))
-    if (before.owner, before.group) != (after.owner, after.group):
-        yield spell(b"chown", number, after.owner, after.group)
-    if before.entries != after.entries:
-        yield spell(b"acl", number, after.entries)
+def _pipe(pipe: IO[bytes] | None) -> IO[bytes]:
+    if pipe is None:
+        raise ValueError("a pipe to wumpus-plan wasn't asked for")
+    return pipe

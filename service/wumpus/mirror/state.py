@@ -18,8 +18,8 @@ from itertools import islice
 from pathlib import Path
 from typing import Any
 
+from .changes import Groups
 from .nodes import FIRST, Node, Rights, Tree, device_of, first_tree, identity_at, inode_of
-from .plan import Groups
 
 FORMAT = 2
 READ = (1, FORMAT)  # the first had one line for each directory

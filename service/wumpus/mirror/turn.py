@@ -19,13 +19,14 @@ from ..shared.progress import Progress
 from ..shared.script import NUMBER_MAX
 from .batch import Texts
 from .budget import Accounts, Budget
+from .changes import Groups, Pairs
 from .feed import Feeder
 from .limits import BadRoot, Limits, NotNarrow
 from .look import Looked, Looker
 from .narrow import NarrowTarget, part_of
 from .nodes import Node
 from .pending import FIRST, Pending, Place
-from .plan import Groups, Pairs, plan_all
+from .planner import Planner
 from .reach import NoMemory, Reach
 from .reasons import Reason
 from .remarks import Remarks
@@ -86,7 +87,7 @@ class Walked:
 class Mirror:
     """Walks, feeds and looks. `pending` has what waits, and `remarks` what is shut, and why.
 
-    `pulse` is called as often as something got on.
+    `pulse` is called as often as something got on. `planner` orders each batch.
     """
 
     def __init__(
@@ -95,8 +96,9 @@ class Mirror:
         folder: Path,
         progress: Progress,
         pulse: Callable[[], None] = lambda: None,
+        planner: Planner | None = None,
     ) -> None:
-        self.feeder = Feeder(reach, folder, progress)
+        self.feeder = Feeder(reach, folder, progress, planner or Planner())
         self.reach = reach
         self.folder = folder
         self.progress = progress
@@ -346,7 +348,8 @@ class Mirror:
         try:
             found = self._take(wish, math.inf, texts, math.inf)
             target.tree.nodes.update((one.node.number, one.node) for one in found)
-            plan = plan_all(old, target.tree, self.state.users, wish.users)
+            planner = self.feeder.planner
+            plan = planner.plan(old, target.tree, self.state.users, wish.users)
             out.writelines(plan.head)
             texts.file.seek(0)
             shutil.copyfileobj(texts.file, out, 1 << 20)

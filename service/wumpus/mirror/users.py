@@ -12,7 +12,7 @@ from collections.abc import Callable
 from pathlib import Path
 
 from ..shared.script import NUMBER_MAX, spell_user
-from .plan import Groups
+from .changes import Groups
 
 
 class BadUsers(Exception):
