@@ -256,18 +256,25 @@ def of_merges(served: Served, score: Score, log: Path) -> None:
         hand.put([b"create\t%d\t1\tf%d\t0\t0\t644" % (number, number),
                   b"text\t%d\t%d" % (number, len(text)), text, b"flush"], 4)  # fmt: skip
         score.check(hand.hear() == b"ok", "a batch")
-    wait_for(lambda: log.read_bytes().splitlines()[-1:] == [b"save"], 20)
-    last = log.read_bytes().splitlines()[-1:]
-    score.check(last == [b"save"], f"after merging: {last}")
+    last = at_rest(log)[-2:]  # each batch ends with a save too
+    score.check(last == [b"work\t200", b"save"], f"after merging: {last}")
     parts = hand.told(b"ask\tstat").split(b"\\t")[-1]
     log.write_bytes(b"")
     kill_program(served)
-    wait_for(lambda: b"work" in log.read_bytes())
-    time.sleep(1.0)
-    works = log.read_bytes().count(b"work")
+    wait_for(lambda: b"work" in log.read_bytes(), 60.0)
+    works = at_rest(log).count(b"work\t200")
     score.check(works == 1, f"after a kill there is nothing to merge: {works} lines")
     score.check(hand.told(b"ask\tstat").split(b"\\t")[-1] == parts, "as many parts as before")
     hand.close()
+
+
+def at_rest(log: Path) -> list[bytes]:
+    """The lines of a log that doesn't grow any more."""
+    before = -1
+    while (size := log.stat().st_size) != before:
+        before = size
+        time.sleep(2.0)
+    return log.read_bytes().splitlines()
 
 
 def of_service(served: Served, score: Score, log: Path) -> None:
