@@ -269,13 +269,13 @@ class Marks:
         call("shmget", 77_001, 4096, 0o1666)
 
     def find_shared_memory(self) -> bool:
-        return call("shmget", 77_001, 4096, 0) > 0
+        return call("shmget", 77_001, 4096, 0) >= 0  # the first one is number 0
 
     def leave_queue(self) -> None:
         call("msgget", 77_002, 0o1666)
 
     def find_queue(self) -> bool:
-        return call("msgget", 77_002, 0) > 0
+        return call("msgget", 77_002, 0) >= 0
 
     def leave_posix_queue(self) -> None:
         call("mq_open", b"wumpus-mark", os.O_CREAT | os.O_RDWR, 0o666, 0)
