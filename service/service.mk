@@ -5,38 +5,40 @@ SERVICE_BIN := wumpus-ask wumpus-web wumpus-lint
 SERVICE_PACKAGES := $(notdir $(patsubst %/,%,$(dir $(wildcard service/wumpus/*/__init__.py))))
 SERVICE_SCRIPTS := $(shell grep -slI '^\#!.*python3' \
 	$(wildcard tools/* bench/* service/tests/*) 2>/dev/null | grep -v '\.py$$')
+# Those that take longest come first, so that none is left over at the end.
 SERVICE_TESTS := \
+	race \
 	stand_in \
+	bombs \
+	fair \
+	allow \
+	kernel \
+	requests \
+	server \
+	client \
+	web \
+	service \
+	ask \
+	walls \
+	running \
+	status \
+	mirror \
+	narrow \
+	bounds \
+	unseen \
+	neighbours \
+	limits \
+	extract \
 	plan \
 	planner \
 	state \
-	mirror \
-	narrow \
-	running \
 	look \
 	language \
-	ask \
-	client \
-	web \
-	status \
 	why \
-	limits \
-	service \
-	requests \
-	fair \
 	shares \
-	allow \
-	neighbours \
-	attack \
-	kernel \
-	race \
-	bounds \
-	unseen \
-	calls \
-	walls \
-	server \
-	bombs \
-	extract
+	calls
+# Goes by the clock: other work beside it would be in what it measures.
+SERVICE_TESTS_ALONE := attack
 SERVICE_TEST_PROGRAM ?= $(abspath $(PROGRAM))
 UNITDIR ?= $(PREFIX)/lib/systemd/system
 SYSCONFDIR ?= /etc
@@ -82,18 +84,12 @@ install-service:
 
 # As root; without it, the tests that take on the ids of users say that they are skipped. Where no
 # program is built, and SERVICE_TEST_PROGRAM names none, the stand-in answers, and says so; batches
-# are ordered by the wumpus-plan that was built with the program, or by its stand-in. Beside other
-# work what a test measures by the clock may be late: one that fails is run once more. They run
-# by the interpreter of the programs: another one may lie where a service without rights can't read.
+# are ordered by the wumpus-plan that was built with the program, or by its stand-in. They run by the
+# interpreter of the programs: another one may lie where a service without rights can't read.
 service-test:
-	@failed=0; \
-	run() { \
-		/usr/bin/python3 service/tests/$$1_test.py \
-			$(addprefix --program ,$(SERVICE_TEST_PROGRAM)); \
-	}; \
-	for name in $(SERVICE_TESTS); do \
-		run $$name || { echo "$$name: once more" && run $$name; } || failed=1; \
-	done; exit $$failed
+	@/usr/bin/python3 service/tests/run_tests.py \
+		$(addprefix --program ,$(SERVICE_TEST_PROGRAM)) \
+		$(SERVICE_TESTS) --alone $(SERVICE_TESTS_ALONE)
 
 # A tool that isn't there is told, and what it checks is left out.
 service-check:

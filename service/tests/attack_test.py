@@ -7,6 +7,7 @@ tells of a file whose right was taken away longer ago than `--stale`; where the 
 nothing is answered then. A file of carol's, who does nothing, is in most answers.
 """
 
+import argparse
 import json
 import os
 import re
@@ -31,9 +32,12 @@ from harness import (
     needs_program,
     needs_root,
     options,
+    planner_of,
+    put_planner,
 )
 from kernel import User
 from service_test import Served, as_user, ask_here, wait_for
+from side_by_side import Job, path_of, side_by_side
 
 PERIOD = 2  # seconds between the beginnings of two turns
 BOUND = 10.0  # seconds more, after which what was taken away is gone
@@ -52,7 +56,10 @@ LIST = struct.pack(
     *(2, 1, 6, 2**32 - 1, 2, 4, BOB.number, 4, 0, 2**32 - 1, 16, 4, 2**32 - 1, 32, 0, 2**32 - 1),
 )
 IN_SHARED = ("touching", "mounts")  # attacks in a directory where carol has files too
+RESTLESS = "restless"  # the attack of one person's many numbers
+ONE_WAITS = 6.0  # seconds between two walks: two that a walk, and the looks, wait for one person
 ACCESS = "system.posix_acl_access"
+COUNTS = re.compile(r"attack: (\d+) passed, (\d+) failed\n\Z")
 
 
 class Home:
@@ -220,6 +227,7 @@ class Trial:
         self.answers: list[Answer] = []
         self.root_told: list[bytes] = []  # of her neighbours' files
         self.newcomers_told: list[bytes] = []
+        self.walks: set[float] = set()  # when each that was fed began, as the mirror tells
 
     def _mirror(self) -> int:
         assert self.stage.turning is not None
@@ -285,6 +293,10 @@ class Trial:
             self.stage.look()
             if self.attack.name in IN_SHARED:
                 self.root_told.append(ask_here(self.stage.sockets, b'count\t"sibling"'))
+            if self.attack.name == RESTLESS:
+                with suppress(OSError):
+                    told = json.loads((self.stage.store / "mirror.status").read_bytes())
+                    self.walks.add(told["walk"]["began"])
             if self.attack.name == "connections":
                 told = as_user(CAROL, lambda: ask_later(self.stage.sockets))
                 self.newcomers_told.append(told)
@@ -341,6 +353,11 @@ def check(trial: Trial, score: Score) -> None:
     if name in IN_SHARED:
         due = set(trial.root_told) - {b"count\t20\t20"}
         score.check(not due, f"{name}: of her neighbours' files root was told {due}")
+    if name == RESTLESS:
+        began = sorted(trial.walks)
+        most = max((after - before for before, after in zip(began, began[1:])), default=99.0)
+        print(f"attack: {name}: {len(began)} walks, the longest time between two {most:.1f} s")
+        score.check(most <= ONE_WAITS, f"{name}: turns waited {most:.1f} s for one person")
     if name == "connections":
         newcomers = trial.newcomers_told
         cut = sum(not told.startswith(b"find") for told in newcomers)
@@ -354,27 +371,52 @@ def main() -> int:
     parser.add_argument("--only", metavar="NAME", choices=[one.name for one in ATTACKS])
     parser.add_argument("--log", action="store_true", help="show what service and mirror told")
     parser.add_argument("--seconds", type=float, default=8.0, help="of each attack")
+    parser.add_argument("--at-once", type=int, default=3, metavar="N", help="so many attacks")
     given = parser.parse_args()
     needs_root("attack")
-    needs_program("attack", given.program)
-    score = Score("attack")
-    print(f"attack: a turn begins each {PERIOD} s; --stale is {STALE} s", flush=True)
     signal.signal(signal.SIGPIPE, signal.SIG_IGN)
-    take_own_mounts()
-    for attack in ATTACKS:
-        if given.only not in (None, attack.name):
-            continue
-        if attack.only_stand_in and given.program != str(STAND_IN):
-            print(f"attack: {attack.name}: the stand-in alone can be had to do this, it's left out")
-            continue
-        with folder_of_own() as name:
-            trial = Trial(attack, Path(name), given.program, given.seconds)
-            print(f"attack: {attack.name}: {attack.about}", flush=True)
-            if score.check(trial.run(), f"{attack.name}: the first turn wasn't done in 90 s"):
-                check(trial, score)
-            if given.log:
-                print((Path(name) / "log").read_text(errors="replace"), flush=True)
+    score = Score("attack")
+    if given.only is not None:
+        attack = next(one for one in ATTACKS if one.name == given.only)
+        take_own_mounts()
+        put_planner(planner_of(given.program))
+        one_attack(attack, given, score)
+        return score.end()
+    needs_program("attack", given.program)
+    print(f"attack: a turn begins each {PERIOD} s; --stale is {STALE} s", flush=True)
+    left_out = [one for one in ATTACKS if one.only_stand_in and given.program != str(STAND_IN)]
+    for attack in left_out:
+        print(f"attack: {attack.name}: the stand-in alone can be had to do this, it's left out")
+    chosen = [one for one in ATTACKS if one not in left_out]
+    with folder_of_own() as name:
+        for ended in side_by_side([job_of(one, given, name) for one in chosen], given.at_once):
+            count = COUNTS.search(ended.output)
+            print(ended.output[: count.start() if count else None], end="", flush=True)
+            score.passed += int(count[1]) if count else 0
+            score.failed += int(count[2]) if count else 0
+            how = f"{ended.job.name}: status {ended.status}"
+            score.check(count is not None and (ended.status == 0) == (count[2] == "0"), how)
     return score.end()
+
+
+def job_of(attack: Attack, given: argparse.Namespace, folder: str) -> Job:
+    """This test with one attack, in a folder of its own."""
+    own = Path(folder) / attack.name
+    own.mkdir(mode=0o755)
+    words = [sys.executable, path_of("attack"), "--only", attack.name, "--program", given.program,
+             "--seconds", f"{given.seconds}", *(["--log"] if given.log else [])]  # fmt: skip
+    return Job(attack.name, words, str(own))
+
+
+def one_attack(attack: Attack, given: argparse.Namespace, score: Score) -> None:
+    """Makes an attack, and checks what has to hold."""
+    with folder_of_own() as name:
+        trial = Trial(attack, Path(name), given.program, given.seconds)
+        print(f"attack: {attack.name}: {attack.about}", flush=True)
+        if score.check(trial.run(), f"{attack.name}: the first turn wasn't done in 90 s"):
+            check(trial, score)
+        if given.log:
+            print((Path(name) / "log").read_text(errors="replace"), flush=True)
 
 
 if __name__ == "__main__":
