@@ -23,7 +23,7 @@ from meaning import (
 )  # fmt: skip
 
 from wumpus.ask import (  # isort: skip
-    expression, forms, language, matching, paths, search, translation,
+    expression, forms, language, matching, paths, search, tokens, translation,
 )  # fmt: skip
 from wumpus.ask.asking import Asking, Trouble  # isort: skip
 from wumpus.ask.expression import Joined, Operator, Scope, TooLong, Window  # isort: skip
@@ -289,7 +289,7 @@ class Writer:
         for place in range(draw.choice((2, 2, 2, 3))):
             if place:
                 gap = draw.choice((None, 1, 2, 3, 5, 1000))
-                gaps.append(language.GAP if gap is None else gap)
+                gaps.append(tokens.GAP if gap is None else gap)
                 typed.append(b"NEAR" if gap is None else b"NEAR/%d" % gap)
             sides = [self._side() for _ in range(draw.choice((1, 1, 1, 2)))]
             text = b" OR ".join(side.typed for side in sides)
