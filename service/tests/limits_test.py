@@ -94,12 +94,17 @@ def of_time(served: Served, score: Score) -> None:
 def of_clock(score: Score) -> None:
     """When a query of two seconds is ended: by its processor, by the clock, and by its waiting."""
     selector, pipe = selectors.DefaultSelector(), os.pipe()
-    for now, spent, waited, is_ended in (
+    rows = (
         (1.9, 1.9, 0.0, False), (2.2, 2.1, 0.0, True), (3.9, 0.1, 0.0, False),
         (4.1, 0.1, 0.0, True), (15.0, 0.1, 12.0, False), (15.0, 2.1, 12.0, True),
         (15.0, 0.1, 10.0, True), (19.9, 1.0, 18.0, False), (20.1, 1.0, 19.0, True),
         (3.9, 0.1, -7.0, False), (4.1, 0.1, -7.0, True),
-    ):  # fmt: skip
+    )  # fmt: skip
+    pressed = ((3.9, 0.1, 3.0, False), (4.1, 0.1, 4.0, True), (15.0, 0.1, 12.0, True))
+    for is_pressed, (now, spent, waited, is_ended) in [
+        *((False, row) for row in rows),
+        *((True, row) for row in pressed),
+    ]:
         clock = mock.Mock(monotonic=mock.Mock(return_value=100.0))
         program = mock.Mock(waiting=deque(), input=pipe[1], output=pipe[0])
         program.spent.return_value, program.waited.return_value = 30.0, 50.0
@@ -110,8 +115,8 @@ def of_clock(score: Score) -> None:
             clock.monotonic.return_value += now
             program.spent.return_value += spent
             program.waited.return_value += waited
-            one.look_at_clock()
-        told = f"after {now} s, {spent} s of them worked, {waited} s waited"
+            one.look_at_clock(is_pressed)
+        told = f"after {now} s, {spent} s of them worked, {waited} s waited, {is_pressed}"
         score.check((one.program is None) == is_ended, told)
     selector.close()
     for descriptor in pipe:

@@ -8,6 +8,7 @@ that are older than is allowed are answered to nobody, whatever failed.
 import os
 import signal
 import socket
+import subprocess
 import sys
 import tempfile
 import threading
@@ -261,6 +262,30 @@ def beside_slow(served: Served, score: Score) -> None:
     hand.close()
 
 
+def beside_busy(served: Served, score: Score) -> None:
+    """A query that waits for a processor doesn't keep a mirror waiting for that."""
+    hand = begin(served)
+    assert served.process is not None
+    processor = min(os.sched_getaffinity(0))
+    busy = [subprocess.Popen(["sh", "-c", "while :; do :; done"]) for _ in range(12)]
+    try:
+        for process in (*children_of(served.process.pid), *(one.pid for one in busy)):
+            os.sched_setaffinity(process, {processor})
+        thread, told = later(lambda: served.ask(BOB, SPIN))
+        time.sleep(0.5)
+        began = time.monotonic()
+        answer = hand.feed(b"chmod\t9\t600")
+        taken = time.monotonic() - began
+    finally:
+        for one in busy:
+            one.kill()
+            one.wait()
+    thread.join()
+    score.check(told == [b"refused\ttooslow"], f"a query beside other work: {told}")
+    score.check(answer == b"ok" and taken < 6 * QUERY_SECONDS, f"{answer!r} after {taken:.1f} s")
+    hand.close()
+
+
 def descriptors_stay(served: Served, score: Score) -> None:
     """Each file that came is closed, whatever came of its line; and each line has its answer."""
     hand = begin(served)
@@ -366,7 +391,7 @@ def main() -> int:
         short = ["--stale", f"{STALE_SECONDS}", "--query-seconds", f"{LONG_SECONDS}"]
         long = ["--stale", f"{LONG_SECONDS}", "--query-seconds", f"{QUERY_SECONDS}"]
         parts = [(part, short) for part in (claims, taken_late, failures, in_the_midst)]
-        parts += [(part, long) for part in (beside_slow, descriptors_stay, damaged)]
+        parts += [(part, long) for part in (beside_slow, beside_busy, descriptors_stay, damaged)]
         try:
             for part, words in parts:
                 start_over(served, *words, "--idle-seconds", "60")

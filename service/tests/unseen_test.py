@@ -118,7 +118,7 @@ def unsettled(trial: Trial) -> None:
         trial.turn()
     trial.check(refusals == 2, "it goes on changing, at a window's end and at the next one's begin")
     trial.check(len(trial.paths(BOB)) == 600, f"{len(trial.paths(BOB))} files of 600")
-    trial.check(600 < visits < 900, f"{visits} visits of some 600 directories")
+    trial.check(600 < visits < 1100, f"{visits} visits of some 600 directories")
 
 
 def taken_once(trial: Trial) -> None:

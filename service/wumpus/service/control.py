@@ -97,6 +97,10 @@ class Controls:
         if not data:
             self.close(control)
 
+    def is_waiting(self) -> bool:
+        """Whether a whole line of a mirror's waits."""
+        return any(b"\n" in control.received for control in self.all.values())
+
     def tell(self, control: Control, answer: bytes) -> None:
         """Answers a mirror, if it is still there. One that reads no answers is cut off."""
         if control.socket.fileno() not in self.all:

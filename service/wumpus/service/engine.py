@@ -233,15 +233,20 @@ class Engine:
             cause = Cause.MEMORY if error.for_memory else Cause.ENDED
         self.drop(Failure(cause, str(error)))
 
-    def look_at_clock(self) -> None:
-        """Kills the program where its task takes longer than it may."""
+    def look_at_clock(self, is_pressed: bool) -> None:
+        """Kills the program where its task takes longer than it may.
+
+        Where a mirror waits for the program, a query's waiting for a processor counts too: what is
+        taken away isn't delayed by who keeps the processors busy.
+        """
         if self.task is None or self.program is None:
             return
         taken = time.monotonic() - self.since
         seconds = self.task.seconds
         if seconds is not None:
             spent = self.program.spent() - self.spent
-            is_late = self._by_clock() > BY_CLOCK * seconds or taken > LATEST * seconds
+            by_clock = taken if is_pressed else self._by_clock()
+            is_late = by_clock > BY_CLOCK * seconds or taken > LATEST * seconds
             if spent > seconds or is_late:
                 self.drop(Failure(Cause.SLOW, "a query took too long"))
         elif taken > self.longest:

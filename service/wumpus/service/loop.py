@@ -303,7 +303,7 @@ class Service:
 
     def _look_at_clock(self) -> None:
         """Ends what takes too long, and reads again what changed."""
-        self.engine.look_at_clock()
+        self.engine.look_at_clock(self.controls.is_waiting())
         if self.engine.cannot_open():
             self._fail_waiting()
         self.persons.look()
