@@ -73,6 +73,7 @@ def torn(trial: Trial) -> None:
     trial.check(len(others) == 19, f"{len(others)} of another directory")
     trial.check(nodes <= set(trial.mirror.state.tree.nodes), "nothing is removed")
     trial.check(visits < 600, f"{visits} visits of some fifty directories")
+    (shared / "eve").unlink(missing_ok=True)  # it is there, where that process ended in the midst
     report = trial.turn()
     trial.check(len(trial.paths(BOB)) == 39, f"afterwards: {len(trial.paths(BOB))}")
     trial.check(report.texts == 0, f"{report.texts} texts were sent again")
