@@ -23,7 +23,8 @@ from contextlib import suppress
 from dataclasses import dataclass
 from pathlib import Path
 
-from attacks import ATTACKS, CAROL, EVE, Attack, Field, take_own_mounts
+from attacks import ATTACKS
+from field import CAROL, EVE, Attack, Field, take_own_mounts
 from harness import (
     SERVICE,
     STAND_IN,

@@ -13,7 +13,7 @@ from contextlib import redirect_stderr, suppress
 from pathlib import Path
 from unittest import mock
 
-from attacks import SUBORDINATES, take_own_mounts
+from field import SUBORDINATES, take_own_mounts
 from harness import SERVICE, Score, folder_of_own, needs_program, needs_root, options
 from kernel import User, become
 from mirror_test import Place
