@@ -10,8 +10,8 @@ SERVICE_TESTS := \
 	race \
 	stand_in \
 	bombs \
+	plan \
 	fair \
-	allow \
 	kernel \
 	requests \
 	server \
@@ -23,13 +23,13 @@ SERVICE_TESTS := \
 	running \
 	status \
 	mirror \
+	allow \
 	narrow \
 	bounds \
 	unseen \
 	neighbours \
 	limits \
 	extract \
-	plan \
 	planner \
 	state \
 	look \

@@ -68,7 +68,7 @@ def of_users(served: Served, score: Score) -> None:
         (["--refuse-root", "--allow", "0-1000"], [NOT_ALLOWED, SEEN, NOT_ALLOWED, NOT_ALLOWED]),
     ]
     for words, due in expected:
-        start_over(served, *words)
+        start_over(served, *words, user=ROOT)
         begin(served).close()
         told = [asked(served, user) for user in everybody]
         score.check(told == due, f"{words}: {told}")

@@ -18,6 +18,7 @@ from contextlib import suppress
 from pathlib import Path
 
 from harness import Score, folder_of_own, needs_program, needs_root, options
+from kernel import User
 from service_test import (
     ANN,
     BOB,
@@ -52,13 +53,16 @@ def troubled(folder: Path, program: str) -> str:
     return str(path)
 
 
-def start_over(served: Served, *words: str) -> None:
-    """Starts the service over an empty store, with these options."""
+def start_over(served: Served, *words: str, user: User = CAROL) -> None:
+    """Starts the service over an empty store, with these options, and waits for an answer.
+
+    The user has to be one who may connect.
+    """
     for one in served.store.iterdir():
         if one.is_dir():
             one.rename(served.folder / f"old{time.monotonic_ns()}")
     served.start(*words)
-    wait_for(lambda: as_user(CAROL, lambda: ask_here(served.sockets, b"paths")) != b"", 20)
+    wait_for(lambda: as_user(user, lambda: ask_here(served.sockets, b"paths")) != b"", 20)
 
 
 class Hand:
