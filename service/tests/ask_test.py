@@ -487,6 +487,12 @@ class Trial:
             marks = due.marks(file)
             what = f"{meant.question.typed!r} marks {found} in place of {marks} in {file.text!r}"
             self.score.check(found == marks, what)
+            for most in (1, 2):
+                with mock.patch.object(matching, "PIECE_LINES", 2):
+                    first = matcher.best(lines, most)
+                due_first = matching.best(matcher.shown(lines), most)
+                what = f"{meant.question.typed!r}: the best of {file.text!r} are {first}"
+                self.score.check(first == due_first, what)
 
 
 def rounds(seed: int, queries: int) -> Iterator[tuple[random.Random, int]]:

@@ -11,10 +11,12 @@ from collections.abc import Iterable, Iterator, Sequence
 from dataclasses import dataclass
 from typing import NamedTuple
 
-from ..shared.words import WORD, word_of
+from ..shared.words import WORD, WORD_MAX, word_of
 from .expression import Scope
 from .forms import Forms, Typed, typed_in
 from .tree import And, Line, Near, Not, Or, Phrase, Row, Tree, Unit
+
+PIECE_LINES = 32  # lines that are looked at together, where those of the best are soon found
 
 
 class Hit(NamedTuple):
@@ -56,14 +58,33 @@ class Matcher:
         self.words = {one: frozenset(map(word_of, forms.of(one))) for one in typed}
         self.wanted = frozenset().union(*self.words.values())
         self.parts = [] if tree is None else list(_wanted_units(tree, True))
-        self.counts = any(_goes_over_lines(part) for part in self.parts)
-        ascii_words = [re.escape(one) for one in sorted(self.wanted) if one.isascii()]
-        # Letters beyond ASCII may fold to ASCII ones, so a line that has any is looked at.
-        self.may_have = re.compile(b"|".join([*ascii_words, b"[\x80-\xff]"]), re.IGNORECASE)
+        self.counts = any(_needs_places(part) for part in self.parts)
+        ascii_words = [one for one in sorted(self.wanted) if one.isascii()]
+        self.in_ascii = re.compile(_whole_words(ascii_words), re.IGNORECASE)
 
     def shown(self, lines: Iterable[bytes]) -> list[Shown]:
         """The lines that have a match, in their order."""
-        hits = list(self._hits(lines))
+        return self._shown_of(list(self._hits(lines)))
+
+    def best(self, lines: Sequence[bytes], most: int) -> list[Shown]:
+        """The lines with most parts of the query, the first of them, in the order of the file.
+
+        Where no match needs to know what other lines have, the rest of a file isn't looked at once
+        so many lines have all parts.
+        """
+        if self.counts:
+            return best(self.shown(lines), most)
+        found: list[Shown] = []
+        whole = 0
+        for start in range(0, len(lines), PIECE_LINES):
+            some = self._shown_of(list(self._hits(lines[start : start + PIECE_LINES], start)))
+            found += some
+            whole += sum(one.parts == len(self.parts) for one in some)
+            if whole >= most:
+                break
+        return best(found, most)
+
+    def _shown_of(self, hits: Hits) -> list[Shown]:
         marked: dict[int, dict[int, set[Hit]]] = {}  # the words of each part, by line
         for number, part in enumerate(self.parts):
             for match in self._matches(part, hits, self.scope):
@@ -71,19 +92,28 @@ class Matcher:
                     marked.setdefault(hit.line, {}).setdefault(number, set()).add(hit)
         return [_shown(line, marked[line]) for line in sorted(marked)]
 
-    def _hits(self, lines: Iterable[bytes]) -> Iterator[Hit]:
-        """The words of the query in a text, in its order."""
+    def _hits(self, lines: Iterable[bytes], first: int = 0) -> Iterator[Hit]:
+        """The words of the query in a text, in its order; the number of its first line is given."""
         position = 1  # the token that begins the first line
-        for number, line in enumerate(lines):
+        for number, line in enumerate(lines, first):
             place = position + 1
-            if self.may_have.search(line):
+            if line.isascii():
+                last = 0
+                for found in self.in_ascii.finditer(line):
+                    if self.counts:
+                        place += len(WORD.findall(line, last, found.start()))
+                    yield Hit(place, number, *found.span(), word_of(found.group()))
+                    last = found.end()
+                    place += 1
+                if self.counts:
+                    place += len(WORD.findall(line, last))
+            else:
+                # Letters beyond ASCII may fold to ASCII ones, so each word is looked at.
                 for found in WORD.finditer(line):
                     word = word_of(found.group())
                     if word in self.wanted:
-                        yield Hit(place, number, found.start(), found.end(), word)
+                        yield Hit(place, number, *found.span(), word)
                     place += 1
-            elif self.counts:
-                place += len(WORD.findall(line))
             position = place + 1
 
     # ---- matches of a unit
@@ -176,9 +206,35 @@ def _wanted_units(tree: Tree[Unit], is_wanted: bool) -> Iterator[Unit]:
         yield tree
 
 
-def _goes_over_lines(unit: Unit) -> bool:
-    """Whether matches depend on how many words other lines have."""
-    return isinstance(unit, Near) or (isinstance(unit, Phrase) and len(unit.words) > 1)
+def _needs_places(unit: Unit) -> bool:
+    """Whether its matches depend on how many words stand between others, or before them."""
+    if isinstance(unit, Line):
+        return any(_needs_places(one) for one in _units_of(unit.query))
+    return isinstance(unit, Near) or len(unit.words) > 1
+
+
+def _units_of(tree: Tree[Unit]) -> Iterator[Unit]:
+    """All units of a query, the excluded ones too."""
+    if isinstance(tree, Not):
+        yield from _units_of(tree.part)
+    elif isinstance(tree, (And, Or)):
+        for part in tree.parts:
+            yield from _units_of(part)
+    else:
+        yield tree
+
+
+def _whole_words(words: Iterable[bytes]) -> bytes:
+    """What finds each of some words in a line of ASCII letters, where it is a whole word.
+
+    A word that was cut is found by its beginning.
+    """
+    escaped = [
+        re.escape(one) + (b"[0-9A-Za-z]*" if len(one) == WORD_MAX else b"") for one in words
+    ]
+    if not escaped:
+        return b"(?!)"
+    return rb"(?<![0-9A-Za-z])(?:%b)(?![0-9A-Za-z])" % b"|".join(escaped)
 
 
 def _in_stretches(units: list[list[Match]], length: int) -> Iterator[Match]:

@@ -6,7 +6,7 @@ from enum import Enum, auto
 
 from .content import lines_of_file
 from .expression import Scope
-from .matching import Matcher, Shown, best
+from .matching import Matcher, Shown
 from .output import Around, Result, Row, grouped
 from .search import File, Meant, Place
 
@@ -38,9 +38,12 @@ def of_files(files: Sequence[File], meant: Meant, share: Share) -> Iterator[Resu
             yield Result(file.path, file.score, ())
             continue
         lines = lines_of_file(file.path) or []
-        found = matcher.shown(lines)
+        if share.choice is Choice.BEST:
+            found = matcher.best(lines, max(share.lines, 1))
+        else:
+            found = matcher.shown(lines)
         note = "" if found else CHANGED
-        chosen = best(found, share.lines) if share.choice is Choice.BEST else found[: share.lines]
+        chosen = found[: share.lines]
         yield Result(file.path, file.score, grouped(lines, chosen, share.around), note)
 
 

@@ -21,7 +21,7 @@ from ..ask.explain import Why, too_long
 from ..ask.expression import Scope, TooLong
 from ..ask.forms import Forms, Marks, find_forms
 from ..ask.language import PREFIX_BYTES
-from ..ask.matching import Matcher, Shown, best
+from ..ask.matching import Matcher, Shown
 from ..ask.output import Layer, Style, cut, shown, text_shown
 from ..ask.paths import condition_of, standing_here
 from ..ask.search import File, Meant, Search
@@ -174,9 +174,9 @@ class Answers:
                 yield {**value, "lines": [], "note": "open it to see its lines"}
             else:
                 lines = lines_of_file(file.path) or []
-                found = matcher.shown(lines)
+                found = matcher.best(lines, LINES)
                 note = "" if found else "changed since it was indexed"
-                rows = [_row(one, lines[one.number - 1], True) for one in best(found, LINES)]
+                rows = [_row(one, lines[one.number - 1], True) for one in found]
                 yield {**value, "lines": rows, "note": note}
 
     def _number_of(self, path: bytes) -> int:
