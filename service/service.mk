@@ -11,6 +11,7 @@ SERVICE_TESTS := \
 	stand_in \
 	bombs \
 	plan \
+	documents \
 	fair \
 	kernel \
 	requests \

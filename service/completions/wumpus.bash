@@ -15,7 +15,7 @@ _wumpus_options() {
         mapfile -t COMPREPLY < <(compgen -u -- "$current")
         return
         ;;
-    --program | --planner | --mirror | --users | --subuid | --metrics | --exclude-from | --settings | --socket | --documents | --now)
+    --program | --planner | --mirror | --users | --subuid | --metrics | --exclude-from | --settings | --socket | --documents | --extract | --now)
         mapfile -t COMPREPLY < <(compgen -f -- "$current")
         return
         ;;
@@ -36,7 +36,8 @@ _wumpus() {
 _wumpus_mirror() {
     _wumpus_options "--folder --program --planner --sockets --exclude --exclude-from --one-file-system
         --unlisted --users --served --every --now --force --anew --dry-run --budget-names --budget-directories
-        --budget-links --budget-bytes --budget-seconds --quiet --version --help" d
+        --budget-links --budget-bytes --budget-seconds --budget-documents --documents --extract
+        --quiet --version --help" d
 }
 
 _wumpus_extract() {

@@ -29,12 +29,16 @@ class Extracting:
         self.path = folder / "socket"
         self.words = words
         self.table: Table = table_of(BUILT_IN)
-        self.listener = socket.socket(socket.AF_UNIX, socket.SOCK_SEQPACKET)
-        self.listener.bind(str(self.path))
-        self.listener.listen()
+        self.listen()
         self.process = 0
         self.told = folder / "told"
         self.start()
+
+    def listen(self) -> None:
+        """Makes the socket."""
+        self.listener = socket.socket(socket.AF_UNIX, socket.SOCK_SEQPACKET)
+        self.listener.bind(str(self.path))
+        self.listener.listen()
 
     def start(self) -> None:
         """Starts the server."""

@@ -7,7 +7,7 @@ from pathlib import Path
 
 from harness import Score, folder_of_own, options
 
-from wumpus.mirror.nodes import FIRST, ROOT, Node, Rights, Tree, first_tree  # isort: skip
+from wumpus.mirror.nodes import FIRST, ROOT, Node, Origin, Rights, Tree, first_tree  # isort: skip
 from wumpus.mirror.state import (  # isort: skip
     FORMAT,
     PIECE,
@@ -20,12 +20,16 @@ from wumpus.mirror.state import (  # isort: skip
 )
 
 SIZES = (0, 1, PIECE - 1, PIECE, PIECE + 1, 3 * PIECE + 5)
+KNOWN = (("pdf", "early %PDF-"), ("html", "suffix html"))
 
 
 def node(number: int, is_directory: bool) -> Node:
     """A node that differs from each other one."""
     rights = Rights(0o640 + number % 8, number % 5, number % 7, b"")
-    return Node(number, is_directory, rights, b"%d" % number, number, number + 1, number + 2)
+    one = Node(number, is_directory, rights, b"%d" % number, number, number + 1, number + 2)
+    if number % 3 == 0 and not is_directory:
+        one.origin = Origin("pdf", b"%20d" % number, "f" * (number % 2), number)
+    return one
 
 
 def tree_of(size: int) -> Tree:
@@ -53,8 +57,8 @@ def same(one: State, other: State) -> bool:
     """Whether two states are equal, names in their order too."""
     tree, others = one.tree, other.tree
     return (
-        (one.serial, one.users, one.following, one.lists)
-        == (other.serial, other.users, other.following, other.lists)
+        (one.serial, one.users, one.following, one.lists, one.known)
+        == (other.serial, other.users, other.following, other.lists, other.known)
         and tree.nodes == others.nodes
         and {key: list(names.items()) for key, names in tree.entries.items()}
         == {key: list(names.items()) for key, names in others.entries.items()}
@@ -63,7 +67,7 @@ def same(one: State, other: State) -> bool:
 
 def written_and_read(folder: Path, size: int, score: Score) -> None:
     """A state with a directory of that size, and a later batch."""
-    state = State("1-a", tree_of(size), {5: (6, 7)}, FIRST + size + 2, True)
+    state = State("1-a", tree_of(size), {5: (6, 7)}, FIRST + size + 2, True, known=KNOWN)
     files = Files(folder)
     files.prepare(state)
     files.commit()
@@ -72,16 +76,26 @@ def written_and_read(folder: Path, size: int, score: Score) -> None:
     lines = list(spell_state(state))
     longest = max(len(json.loads(line)[1]) for line in lines[1:])
     score.check(longest <= PIECE, f"{size} names: a line with {longest}")
-    later = Addition("2-b", [node(FIRST, True)])
+    later = Addition("2-b", [node(FIRST, True), node(3 * FIRST, False)])
     files.add(later)
     found = read_state(files.path)
     score.check(found is not None and found[1] == [later], f"{size} names: the later batch")
 
 
 def older(folder: Path, score: Score) -> None:
-    """A state of the first format, which had each directory in one line."""
+    """States of the first format, which had each directory in one line, and of the second one.
+
+    Neither knew documents.
+    """
     state = State("1-a", tree_of(2 * PIECE), {}, FIRST, False)
+    for one in state.tree.nodes.values():
+        one.origin = None
     head, *lines = map(json.loads, spell_state(state))
+    del head["known"]
+    path = folder / "older"
+    path.write_text("".join(json.dumps(one) + "\n" for one in (head | {"format": 2}, *lines)))
+    found = read_state(path)
+    score.check(found is not None and same(found[0], state), "the second format")
     whole: dict[int, list[list[object]]] = {}
     for line in lines:
         before = whole.setdefault(line[0][0], [line[0], [], [], []])
@@ -89,11 +103,33 @@ def older(folder: Path, score: Score) -> None:
             before[part].extend(line[part])
     head.update(format=1, directories=len(whole))
     del head["lines"]
-    path = folder / "older"
     path.write_text("".join(json.dumps(one) + "\n" for one in (head, *whole.values())))
     found = read_state(path)
     score.check(found is not None and same(found[0], state), "the first format")
-    score.check(FORMAT == 2, "the format of new states")
+    score.check(FORMAT == 3, "the format of new states")
+    path.write_text(json.dumps(head | {"format": FORMAT + 1}) + "\n")
+    try:
+        read_state(path)
+        score.check(False, "a state of a later mirror is read")
+    except BadState:
+        score.check(True, "")
+
+
+def sorting(score: Score) -> None:
+    """Which files are looked at again where documents are known by something else."""
+    state = State("1-a", tree_of(30), {}, FIRST, False)
+    files = {number for number, one in state.tree.nodes.items() if not one.is_directory}
+    pages = {number for number in files if state.tree.nodes[number].kind}
+    for known, due in (
+        (KNOWN, files), (KNOWN, set()), (KNOWN[1:], pages), (KNOWN[::-1], files),
+        ((KNOWN[1], ("pdf", "magic %PDF-")), files), ((), pages),
+    ):  # fmt: skip
+        state.sort_by(known)
+        score.check(state.unsorted == due, f"{known}: {len(state.unsorted)} of {len(files)}")
+        head = json.loads(next(spell_state(state)))
+        is_kept = head["known"] == ([] if due else json.loads(json.dumps(known)))
+        score.check(is_kept, f"{known}: as {head['known']}")
+        state.unsorted.clear()
 
 
 def links(folder: Path, score: Score) -> None:
@@ -131,6 +167,7 @@ def main() -> int:
             os.mkdir(folder)
             written_and_read(folder, size, score)
         older(Path(name), score)
+        sorting(score)
         links(Path(name), score)
     return score.end()
 

@@ -169,8 +169,7 @@ class Extractor:
     def fingerprints(self) -> dict[str, str]:
         """Each kind that is made, with what changes where its texts may come out different."""
         offers = {} if self.server is None else self.server.offers
-        known = self.table.kinds
-        return {name: one.fingerprint for name, (_, one) in offers.items() if name in known}
+        return {name: one.fingerprint for name, (_, one) in offers.items()}
 
     def kind_of(self, name: bytes, front: bytes) -> Kind | None:
         """The kind of a file with this name that begins with these 8,192 bytes; None if none."""

@@ -3,6 +3,8 @@
 import codecs
 import re
 
+from .front import marked
+
 _NAMES = (
     "ascii utf-8 utf-16 utf-16-le utf-16-be utf-32 utf-32-le utf-32-be utf-7"
     " latin-1 iso8859-2 iso8859-3 iso8859-4 iso8859-5 iso8859-6 iso8859-7 iso8859-8 iso8859-9"
@@ -21,13 +23,6 @@ _MEANT = {
     "macintosh": "mac-roman", "iso88599": "cp1254", "iso885911": "cp874", "windows874": "cp874",
 }  # fmt: skip
 _OTHER = "cp1252"  # of what is no UTF-8 and names no coding
-_MARKS = (
-    (codecs.BOM_UTF8, "utf-8"),
-    (codecs.BOM_UTF32_LE, "utf-32-le"),
-    (codecs.BOM_UTF32_BE, "utf-32-be"),
-    (codecs.BOM_UTF16_LE, "utf-16-le"),
-    (codecs.BOM_UTF16_BE, "utf-16-be"),
-)
 _SIGNS = re.compile("[^a-z0-9]")
 
 
@@ -58,11 +53,6 @@ _CODINGS = _codings()
 def coding_of(name: str) -> str | None:
     """The coding of a name that a document has; None for one that isn't in the list."""
     return _CODINGS.get(_short(name))
-
-
-def marked(data: bytes) -> tuple[str, int] | None:
-    """The coding that a mark of byte order at the beginning tells, and the length of the mark."""
-    return next(((name, len(mark)) for mark, name in _MARKS if data.startswith(mark)), None)
 
 
 def decoded(data: bytes, named: str | None = None) -> str:

@@ -20,7 +20,7 @@ from dataclasses import dataclass
 from itertools import takewhile
 from pathlib import Path
 
-from .wide import is_wide
+from .front import is_wide
 
 TABLE = Path("/etc/wumpus/documents")
 TABLE_MAX = 1 << 16  # bytes
@@ -58,6 +58,8 @@ LINES_OF_FILE = frozenset({"html", "wide", PLAIN}) | PACKED
 PAGED = frozenset({"pdf", "pptx", "odf"})
 
 
+Known = tuple[tuple[str, str], ...]  # each kind, and what it is known by, in their order
+
 _NAME = re.compile("[a-z][a-z0-9]{0,15}")
 KINDS_MAX = 100
 
@@ -85,11 +87,15 @@ class Program:
 
 @dataclass(frozen=True)
 class Kind:
-    """A kind: a file is of it where one of the lists of conditions holds."""
+    """A kind: a file is of it where one of the lists of conditions holds.
+
+    `words` has the conditions as they are written in the table.
+    """
 
     name: str
     known_by: tuple[tuple[Condition, ...], ...]
     made_by: Code | Program
+    words: str = ""
 
     def fits(self, suffix: bytes, front: bytes) -> bool:
         """Tells whether a file is of this kind."""
@@ -101,6 +107,18 @@ class Table:
 
     def __init__(self, kinds: Iterable[Kind]) -> None:
         self.kinds = {kind.name: kind for kind in kinds}
+
+    def __eq__(self, other: object) -> bool:
+        """Whether files are of the same kinds by both."""
+        return isinstance(other, Table) and self.known == other.known
+
+    def __hash__(self) -> int:
+        return hash(self.known)
+
+    @property
+    def known(self) -> Known:
+        """What tells of which kind a file is: where it is another one, files may be of others."""
+        return tuple((kind.name, kind.words) for kind in self.kinds.values())
 
     def kind_of(self, name: bytes, front: bytes) -> Kind | None:
         """The kind of a file with this name that begins so; None where it isn't a document.
@@ -203,7 +221,8 @@ def _kind(words: list[str]) -> Kind:
     makers = [place for place, word in enumerate(rest) if word in ("code", "program")]
     if not makers:
         raise BadTable("it says by nothing what its text is made by")
-    return Kind(words[0], _known_by(rest[: makers[0]]), _made_by(rest[makers[0] :]))
+    known_by = rest[: makers[0]]
+    return Kind(words[0], _known_by(known_by), _made_by(rest[makers[0] :]), " ".join(known_by))
 
 
 def table_of(*texts: str) -> Table:

@@ -4,8 +4,9 @@ import re
 from html import unescape
 from html.parser import HTMLParser
 
-from .coding import coding_of, decoded, marked
+from .coding import coding_of, decoded
 from .frames import Output
+from .front import marked
 from .reasons import Reason, Refusal
 
 _FRONT = 8192

@@ -22,6 +22,8 @@ class Reason(Enum):
     STOPPED = "its filter was stopped from outside"
     NO_PROCESS = "the machine had no process for it"
     NO_SERVER = "the server didn't answer"
+    NO_ROOM = "its owner has too much text"
+    NO_DISK = "the disk of the store is nearly full"
 
     @property
     def final(self) -> bool:
@@ -32,7 +34,14 @@ class Reason(Enum):
         return self not in _PASSING
 
 
-_PASSING = {Reason.LATE, Reason.STOPPED, Reason.NO_PROCESS, Reason.NO_SERVER}
+_PASSING = {
+    Reason.LATE,
+    Reason.STOPPED,
+    Reason.NO_PROCESS,
+    Reason.NO_SERVER,
+    Reason.NO_ROOM,
+    Reason.NO_DISK,
+}
 
 # What a worker itself says, in one byte, so that a hostile one has no words to choose.
 SAID = {

@@ -77,10 +77,13 @@ def text_of(
 ) -> Made | Failed:
     """The text of a sealed document that has this name. One of no kind is broken.
 
-    It may take ten seconds of the processor, or as many as are given.
+    It may take ten seconds of the processor, or as many as are given, and thrice as many of the
+    clock before it is late.
     """
     kind = table.kind_of(name, document.front)
-    bounds = _Bounds(text_limit(document.size), SECONDS if seconds is None else seconds)
+    allowed = SECONDS if seconds is None else seconds
+    late = time.monotonic() + Allowance(allowed, MEMORY).patience
+    bounds = _Bounds(text_limit(document.size), allowed, late)
     making = _Making(workers, table, bounds)
     try:
         if kind is None:
@@ -113,6 +116,7 @@ class _Bounds:
 
     text: int
     seconds_allowed: int
+    late: float  # when it is late, by the monotonic clock
     within: int = WITHIN_MAX
     bytes_within: int = DOCUMENT_MAX
     seconds: float = 0.0  # that were taken
@@ -131,7 +135,9 @@ class _Bounds:
             raise _Enough(Reason.WITHIN)
 
     def allowance(self) -> Allowance:
-        """What the next worker may take. Raises `_Enough` where nothing is left."""
+        """What the next worker may take. Raises `_Enough` where nothing is left, or it is late."""
+        if time.monotonic() >= self.late:
+            raise _Enough(Reason.LATE)
         left = math.ceil(self.seconds_allowed - self.seconds)
         if left <= 0:
             raise _Enough(Reason.TIME)
@@ -251,11 +257,11 @@ class _Framed:
                 inner.document.seal()
 
 
-def _read(run: Run, taker: _Plain | _Framed) -> None:
+def _read(run: Run, taker: _Plain | _Framed, late: float) -> None:
     """Reads what a worker writes, to its end. Raises `_Enough`."""
     poller = select.poll()
     poller.register(run.output, select.POLLIN)
-    end = time.monotonic() + run.patience
+    end = min(time.monotonic() + run.patience, late)
     while True:
         left = end - time.monotonic()
         if left <= 0 or not poller.poll(left * 1000):
@@ -353,7 +359,7 @@ class _Making:
         fault = None
         run = self.workers.begin(kind, document, allowed)
         try:
-            _read(run, taker)
+            _read(run, taker, self.bounds.late)
         except _Enough as enough:
             fault = enough.reason
         finally:

@@ -110,12 +110,14 @@ def offers(
         trouble = _trouble_of(tasks[name], samples.OF_FILTER[name])
         if trouble is not None:
             raise Untrusted(f"behind its walls a worker can read nothing: {trouble}")
-        offered[name] = _offer(name, tasks[name])
+        offered[name] = _offer(name, tasks[name], (name,))
     for kind in table.kinds.values():
         task = tasks.get(kind.name)
         trouble = _trouble_of(task, _sample_of(kind)) if task else "its program isn't there"
         if task is not None and trouble is None:
-            offered[kind.name] = _offer(kind.name, task)
+            made_by = kind.made_by
+            words = (made_by.name,) if isinstance(made_by, Code) else made_by.words
+            offered[kind.name] = _offer(kind.name, task, words)
         else:
             warn(f"{kind.name}: {trouble}: its documents have no text")
     return offered
@@ -142,13 +144,13 @@ def _trouble_of(task: Task, sample: bytes | None) -> str | None:
     return None
 
 
-def _offer(name: str, task: Task) -> Offer:
-    """An offer; of a program the fingerprint has the version that it tells."""
-    told = [f"{VERSION}"]
+def _offer(name: str, task: Task, words: tuple[str, ...]) -> Offer:
+    """An offer of what some words make; of a program the fingerprint has the version it tells."""
+    told = [f"{VERSION}", *words]
     if isinstance(task, ProgramTask):
         version = ProgramTask(task.walls, (task.words[0], "-v"))
         with Document.of(b"") as nothing:
             written, _ = _outcome(version, nothing, errors=True)
-        told += [*task.words, written.partition(b"\n")[0].decode("utf-8", "replace")]
+        told.append(written.partition(b"\n")[0].decode("utf-8", "replace"))
     fingerprint = hashlib.blake2b("\0".join(told).encode(), digest_size=8).hexdigest()
     return Offer(name, isinstance(task, ProgramTask), fingerprint)

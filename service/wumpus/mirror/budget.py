@@ -29,6 +29,7 @@ class Budget:
     links: int = 10_000  # names of one inode: where it has more, new ones are refused
     text_bytes: int = 16 << 30  # of texts that the program keeps
     seconds: float = 60.0  # of a walk, and of the looks between two walks
+    documents: float = 30.0  # seconds of a minute in which text of documents is made
 
 
 @dataclass(slots=True)

@@ -16,6 +16,9 @@ from pathlib import Path
 from types import FrameType
 
 from .. import VERSION
+from ..extract.client import Extractor
+from ..extract.kinds import TABLE, BadTable, Table, table_here
+from ..extract.packets import SOCKET
 from ..shared.notify import notify
 from ..shared.numbers import count, seconds
 from ..shared.persons import Persons
@@ -25,7 +28,8 @@ from ..shared.store import CONTROL, FOLDER, SOCKETS, Busy, Failed, check_own, on
 from .access import Access
 from .budget import Budget
 from .changes import Groups
-from .nodes import Identity, identity_of
+from .documents import Documents
+from .nodes import Identity, identity_of, unmade
 from .planner import PROGRAM, Planner
 from .reach import Direct, Served, Unanswered
 from .state import BadState
@@ -68,6 +72,10 @@ def parser() -> argparse.ArgumentParser:
     add("--exclude-from", metavar="FILE", help="patterns of a file, one a line, # begins a comment")
     add("--one-file-system", action="store_true", help="stay on the file system of each root")
     add("--unlisted", action="store_true", help="show also what only who knows its name may open")
+    add("--documents", default=str(TABLE), metavar="FILE",
+        help=f"the table of kinds of documents ({TABLE})")  # fmt: skip
+    add("--extract", default=SOCKET, metavar="PATH",
+        help=f"where text of documents is made ({SOCKET})")  # fmt: skip
     add("--users", metavar="FILE", help="a user and her groups a line, in place of the system's")
     add("--served", action="store_true", help="only by a service: never run the program itself")
     add("--every", type=seconds, metavar="SECONDS", help="go on for ever, a turn so often")
@@ -95,6 +103,8 @@ def add_budget(options: argparse.ArgumentParser) -> None:
         help=f"of the texts of one user ({budget.text_bytes})")  # fmt: skip
     add("--budget-seconds", type=seconds, default=budget.seconds, metavar="SECONDS",
         help=f"of a walk, and of the looks after it, for one user ({budget.seconds:.0f})")  # fmt: skip
+    add("--budget-documents", type=seconds, default=budget.documents, metavar="SECONDS",
+        help=f"of a minute, for documents of one user ({budget.documents:.0f})")  # fmt: skip
 
 
 def absolute(path: str) -> str:
@@ -110,6 +120,8 @@ def budget_of(given: argparse.Namespace) -> Budget:
         links=given.budget_links,
         text_bytes=given.budget_bytes,
         seconds=given.budget_seconds,
+        # After a single turn there is no other one for what is left.
+        documents=math.inf if given.every is None else given.budget_documents,
     )
 
 
@@ -190,6 +202,7 @@ class Session:
         self.watch = Watch(folder)
         self.users: Callable[[], Groups] = dict
         self.persons = Persons(progress.warn)
+        self.table: Table | None = None  # of kinds of documents, as it was good last
         self.told = ""  # what was missing or held at the last turn
 
     def run(self) -> None:
@@ -206,10 +219,12 @@ class Session:
         """Does it. Raises the `FAILURES`."""
         reach = reach_of(self.given, self.folder)
         planner = Planner(self.given.planner)
+        documents = Documents(Extractor(Table(()), Path(self.given.extract)))
         is_whole = False
         try:
             self.users = users_of(self.given, reach, self.progress.warn)
-            mirror = Mirror(reach, self.folder, self.progress, self.watch.pulse, planner)
+            pulse = self.watch.pulse
+            mirror = Mirror(reach, self.folder, self.progress, pulse, planner, documents)
             self.watch.mirror = mirror
             mirror.begin(self.given.anew, self.given.dry_run)
             self.given.anew = False
@@ -223,6 +238,7 @@ class Session:
             raise
         finally:
             planner.close()
+            documents.close()
             if is_whole:
                 reach.close()
             else:
@@ -237,10 +253,11 @@ class Session:
             due = math.inf if self.given.every is None else began + self.given.every
             wanted = self._turn(mirror, wanted, due)
             mirror.rest()
+            self._warn_of_documents(mirror)
             self.progress.end_turn()
             is_told = is_first or mirror.report.batches > 0
             if is_told and not self.given.quiet:
-                tell(mirror.report, mirror.pending.files, time.monotonic() - began)
+                tell(mirror, time.monotonic() - began)
             is_first = False
             self._tell_unfinished(mirror.report)
             if mirror.report.texts:
@@ -253,7 +270,21 @@ class Session:
     def _wish(self) -> Wish:
         """What is to be mirrored now, and whose each number of a user is."""
         self.persons.look()
-        return wish_of(self.given, self.folder, self.users(), self.persons.of)
+        wish = wish_of(self.given, self.folder, self.users(), self.persons.of)
+        return replace(wish, table=self._table())
+
+    def _table(self) -> Table:
+        """The table of kinds of documents, or that of before where it isn't good any more.
+
+        Rights go on being fed then. Raises `Failed` where there was none.
+        """
+        try:
+            self.table = table_here(Path(self.given.documents))
+        except (BadTable, OSError) as error:
+            if self.table is None:
+                raise Failed(str(error)) from error
+            self.progress.warn(f"the table of before is kept: {error}")
+        return self.table
 
     def _turn(self, mirror: Mirror, wanted: Wanted, due: float) -> Wanted:
         """One turn: what is asked for meanwhile ends it, where all has to be walked for it."""
@@ -303,6 +334,12 @@ class Session:
                 return asked
         return Wanted()
 
+    def _warn_of_documents(self, mirror: Mirror) -> None:
+        """Tells why documents have no text, where that is so of all."""
+        trouble = mirror.documents.trouble
+        if trouble is not None and unmade(mirror.state.tree):
+            self.progress.warn(f"no text of documents is made: {trouble}")
+
     def _tell_unfinished(self, report: Report) -> None:
         """Tells what is missing or held: once, or by `Unfinished` where there is one turn."""
         held = [f"{one}: it waits for --force" for one in report.held]
@@ -324,16 +361,26 @@ def without_cycles() -> Iterator[None]:
         gc.enable()
 
 
-def tell(report: Report, waiting: int, seconds: float) -> None:
+def tell(mirror: Mirror, seconds: float) -> None:
     """Tells what a turn did, on standard error."""
+    report, waiting = mirror.report, mirror.pending.files
     shut = f", {report.shut} shut" if report.shut else ""
     left = f", {waiting} left" if waiting else ""
     print(
         f"wumpus-mirror: {report.files} files, {report.looked} looked at{shut}{left}, "
-        f"{report.texts} texts of {report.size} bytes sent in {report.batches} batches, "
-        f"{seconds:.1f} s",
+        f"{report.texts} texts of {report.size} bytes sent in {report.batches} batches"
+        f"{told_of_documents(mirror)}, {seconds:.1f} s",
         file=sys.stderr,
     )
+
+
+def told_of_documents(mirror: Mirror) -> str:
+    """What a turn did of documents: how many were made, are to be made yet, or failed, and why."""
+    report, due = mirror.report, unmade(mirror.state.tree)
+    made = f", {report.documents} documents made" if report.documents or due else ""
+    left = f", {due} due" if due else ""
+    whys = ", ".join(f"{count} {why}" for why, count in sorted(report.failed.items()))
+    return made + left + (f" ({whys})" if whys else "")
 
 
 def end(_number: int, _frame: FrameType | None) -> None:

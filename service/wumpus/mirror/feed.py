@@ -4,6 +4,7 @@ The state of after a batch is written before the batch is fed. Which state is tr
 tells, by the serial of its last batch.
 """
 
+from dataclasses import replace
 from pathlib import Path
 
 from ..shared.progress import Progress
@@ -107,7 +108,7 @@ class Feeder:
         """
         old = self.state
         plan = self.planner.plan(old.tree, tree, old.users, users)
-        new = State(old.serial, tree, users, following, old.lists, unlisted, old.complete)
+        new = replace(old, tree=tree, users=users, following=following, unlisted=unlisted)
         nodes = old.tree.nodes
         changed = [node for number, node in tree.nodes.items() if nodes.get(number) is not node]
         is_fed = not plan.is_empty() or not old.serial

@@ -9,14 +9,16 @@ import os
 import stat
 import time
 from collections import deque
-from collections.abc import Callable
+from collections.abc import Callable, Iterable, Iterator
 from dataclasses import dataclass
 
+from ..extract.documents import DOCUMENT_MAX
+from ..extract.kinds import Table
 from ..shared.script import TEXT_MAX
-from ..shared.texts import is_text
+from ..shared.texts import FRONT, is_text
 from .access import Access, BadList
 from .budget import Account, Accounts
-from .nodes import Node, Rights, identity_of
+from .nodes import Node, Origin, Rights, identity_of
 from .pending import Place
 from .reasons import Reason
 from .remarks import path_of
@@ -31,7 +33,10 @@ OPEN_AT_MOST = 512  # directories in a window, but for the last way
 
 @dataclass(slots=True)
 class Looked:
-    """A file that was looked at: its node, and its text where there is one."""
+    """A file that was looked at: its node, and its text where there is one.
+
+    Of a document no text is made here: it has an origin, and the empty text.
+    """
 
     place: Place
     node: Node
@@ -55,17 +60,33 @@ Outcome = Looked | Failed | None  # None: it didn't stand still in this window
 
 def digest_of(text: bytes) -> bytes:
     """What tells a text from another one; empty for the empty text."""
-    return hashlib.blake2b(text, digest_size=20).digest() if text else b""
+    return digest_of_pieces([text]) if text else b""
+
+
+def digest_of_pieces(pieces: Iterable[bytes]) -> bytes:
+    """What tells the bytes that some pieces are together from others."""
+    digest = hashlib.blake2b(digest_size=20)
+    for piece in pieces:
+        digest.update(piece)
+    return digest.digest()
 
 
 class Looker:
-    """Looks at files, between two walks. `warn` is told of what has no text, and why."""
+    """Looks at files, between two walks. `warn` is told of what has no text, and why.
+
+    The table tells which files are documents.
+    """
 
     def __init__(
-        self, accounts: Accounts, access: Access, warn: Callable[[str, bytes], None]
+        self,
+        accounts: Accounts,
+        access: Access,
+        table: Table,
+        warn: Callable[[str, bytes], None],
     ) -> None:
         self.accounts = accounts
         self.access = access
+        self.table = table
         self.ways = Ways(accounts, access)
         self.warn = warn
 
@@ -140,37 +161,58 @@ class Looker:
             status = self.ways.settled(descriptor)
             _check(place, status)
             rights = self.access.of_file(descriptor, status)
-            text = self._text(descriptor, status, place)
+            known = self._as_known(descriptor, status, place)
+            if known is not None:
+                return Looked(place, known, b"")
+            text, origin = self._content(descriptor, status, place)
             after = os.fstat(descriptor)
         finally:
             os.close(descriptor)
         if _what_tells(status) != _what_tells(after):
             raise Changed
-        return Looked(place, _node_of(place, status, rights, text), text)
+        return Looked(place, _node_of(place, status, rights, text, origin), text)
 
-    def _text(self, descriptor: int, status: os.stat_result, place: Place) -> bytes:
+    def _as_known(self, descriptor: int, status: os.stat_result, place: Place) -> Node | None:
+        """The known node of a file that was to be looked at for its kind, and is of the known one.
+
+        So not all of it is read.
+        """
+        known = place.file.known
+        if known is None or status.st_ctime_ns != known.changed:
+            return None
+        front = os.pread(descriptor, FRONT, 0)
+        kind = self.table.kind_of(place.name, front)
+        if kind is not None:
+            return known if known.kind == kind.name else None
+        return known if not known.kind and (not known.digest or is_text(front)) else None
+
+    def _content(
+        self, descriptor: int, status: os.stat_result, place: Place
+    ) -> tuple[bytes, Origin | None]:
         """The file's bytes as its text: empty where they are too many, or aren't text.
 
-        Raises `Changed` where it has another size than its status says.
+        Of a document it is its origin. Raises `Changed` where the file has another size than its
+        status says.
         """
-        if status.st_size > TEXT_MAX:
-            self._warn("over 16 MiB, its path is kept without its text", place)
-            return b""
-        if status.st_size and os.lseek(descriptor, 0, os.SEEK_HOLE) < status.st_size:
+        size = status.st_size
+        if size > DOCUMENT_MAX:
+            self._warn("over 64 MiB, its path is kept without its text", place)
+            return b"", None
+        if size and os.lseek(descriptor, 0, os.SEEK_HOLE) < size:
             # Its holes take no room of its owner's, and would take it of the store's.
             self._warn("has holes, its path is kept without its text", place)
-            return b""
+            return b"", None
         os.lseek(descriptor, 0, os.SEEK_SET)
-        pieces = [os.read(descriptor, min(status.st_size + 1, PIECE))]
-        if not is_text(pieces[0]):
-            return b""
-        size = len(pieces[0])
-        while pieces[-1] and size <= status.st_size:
-            pieces.append(os.read(descriptor, PIECE))
-            size += len(pieces[-1])
-        if size != status.st_size:
-            raise Changed
-        return b"".join(pieces)
+        first = os.read(descriptor, min(size + 1, PIECE))
+        kind = self.table.kind_of(place.name, first[:FRONT])
+        if kind is not None:
+            return b"", Origin(kind.name, digest_of_pieces(_pieces(descriptor, first, size)))
+        if size > TEXT_MAX:
+            self._warn("over 16 MiB, its path is kept without its text", place)
+            return b"", None
+        if not is_text(first):
+            return b"", None
+        return b"".join(_pieces(descriptor, first, size)), None
 
     def _warn(self, sentence: str, place: Place) -> None:
         self.warn(sentence, path_of(place.directory, place.name))
@@ -200,11 +242,24 @@ def _what_tells(status: os.stat_result) -> tuple[int, ...]:
     )
 
 
-def _node_of(place: Place, status: os.stat_result, rights: Rights, text: bytes) -> Node:
+def _pieces(descriptor: int, first: bytes, size: int) -> Iterator[bytes]:
+    """The bytes of a file of which the first were read. Raises `Changed` where it isn't so long."""
+    yield first
+    count = len(first)
+    while count <= size and (piece := os.read(descriptor, PIECE)):
+        count += len(piece)
+        yield piece
+    if count != size:
+        raise Changed
+
+
+def _node_of(
+    place: Place, status: os.stat_result, rights: Rights, text: bytes, origin: Origin | None
+) -> Node:
     """The node of a file that was read."""
     settled = time.time_ns() - status.st_ctime_ns > SETTLED
     changed = status.st_ctime_ns if settled else -status.st_ctime_ns
-    file = place.file
+    file, size = place.file, status.st_size
     return Node(
-        file.number, False, rights, digest_of(text), file.identity, changed, status.st_size
+        file.number, False, rights, digest_of(text), file.identity, changed, size, origin
     )

@@ -153,13 +153,20 @@ class Reading:
 class Names:
     """Reads names: files as entries of their directory, directories as names to be visited.
 
-    `known` has the nodes that the program has, by identity.
+    `known` has the nodes that the program has, by identity. Those of the `unsorted` numbers may be
+    of another kind than is known.
     """
 
     def __init__(
-        self, limits: Limits, known: dict[Identity, Node], systems: FileSystems, force: bool
+        self,
+        limits: Limits,
+        known: dict[Identity, Node],
+        systems: FileSystems,
+        force: bool,
+        unsorted: Container[int] = (),
     ) -> None:
         self.known = known
+        self.unsorted = unsorted
         self.systems = systems
         self.force = force
         self.fits = pattern_of(limits.excludes) if limits.excludes else None
@@ -237,9 +244,12 @@ class Names:
         if known is not None and known.is_directory:
             known = None
         is_same = known is not None and _is_as_known(known, status)
-        if known is not None and is_same and known.changed > 0:
+        is_old = known is not None and is_same and known.changed > 0
+        if known is not None and is_old and known.number not in self.unsorted:
             return known
         number = known.number if known is not None else 0
         owner, group = status.st_uid, status.st_gid
         changed, size = status.st_ctime_ns, status.st_size
-        return FreshFile(identity, owner, group, changed, size, number, is_same)
+        fresh = FreshFile(identity, owner, group, changed, size, number, is_same and not is_old)
+        fresh.known = known if is_old else None
+        return fresh

@@ -46,13 +46,32 @@ class Rights(NamedTuple):
         return Rights(0, self.owner, self.group)
 
 
+class Origin(NamedTuple):
+    """What a document's text is made from, and by what.
+
+    `source` is a digest of the document's bytes. `by` is the fingerprint of the filter that made
+    the text, or that found that it has none; it is empty as long as nothing was made. `length` is
+    that of the text, in bytes.
+    """
+
+    kind: str
+    source: bytes
+    by: str = ""
+    length: int = 0
+
+    def is_same(self, other: "Origin | None") -> bool:
+        """Whether the other is the same document: the same bytes, of the same kind."""
+        return other is not None and self[:2] == other[:2]
+
+
 @dataclass(slots=True)
 class Node:
     """A node as the program has it, and the status of the real one that it was made from.
 
     `digest` is that of the text that the program has, empty for the empty text. `changed` is the
     real node's ctime in nanoseconds: 0 where it has to be looked at again, and negative where it
-    was looked at so soon after that moment that its text may change under the same ctime.
+    was looked at so soon after that moment that its text may change under the same ctime. `origin`
+    is that of a document; other files are their text themselves, or have none.
     """
 
     number: int
@@ -62,6 +81,19 @@ class Node:
     identity: Identity
     changed: int
     size: int
+    origin: Origin | None = None
+
+    @property
+    def kind(self) -> str:
+        """As which kind of document it is known; empty where it is none."""
+        return self.origin.kind if self.origin is not None else ""
+
+    @property
+    def text_bytes(self) -> int:
+        """How many bytes of text the program has of it."""
+        if not self.digest:
+            return 0
+        return self.origin.length if self.origin is not None else self.size
 
 
 @dataclass(slots=True)
@@ -88,6 +120,12 @@ class Tree:
                     depths[child] = depths[parent] + 1
                     waiting.append(child)
         return depths
+
+
+def unmade(tree: Tree) -> int:
+    """How many documents there are of which no text was made yet."""
+    origins = (node.origin for node in tree.nodes.values())
+    return sum(1 for origin in origins if origin is not None and not origin.by)
 
 
 def first_tree() -> Tree:

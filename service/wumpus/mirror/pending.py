@@ -9,6 +9,7 @@ from collections.abc import Callable, Container, Iterable, Iterator
 from dataclasses import dataclass
 from itertools import chain
 
+from ..extract.documents import DOCUMENT_MAX
 from ..shared.script import TEXT_MAX
 from .nodes import Tree
 from .remarks import path_of
@@ -30,6 +31,11 @@ class Place:
     @property
     def cost(self) -> int:
         """How many bytes may have to be read."""
+        return self.file.size if self.file.size <= DOCUMENT_MAX else 0
+
+    @property
+    def text_bytes(self) -> int:
+        """How many bytes of text it may have, if it is its text itself."""
         return self.file.size if self.file.size <= TEXT_MAX else 0
 
 
@@ -57,7 +63,10 @@ class Pending:
             self.files += 1
             self.bytes += place.cost
         for waiting in found.values():
-            waiting.sort(key=lambda place: self.since[place.file.number])
+            # What is looked at for its kind alone isn't shut meanwhile: it comes last.
+            waiting.sort(
+                key=lambda place: (place.file.known is not None, self.since[place.file.number])
+            )
         self.queues = {person: deque(waiting) for person, waiting in found.items()}
         self.turns = deque(sorted(self.queues))
 

@@ -23,14 +23,14 @@ class Room:
         self.stored: Counter[int] = Counter()
         for node in tree.nodes.values():
             if node.digest:
-                self.stored[person_of(node.rights.owner)] += node.size
+                self.stored[person_of(node.rights.owner)] += node.text_bytes
 
     def is_exceeded(self, before: Node, owner: int, size: int) -> bool:
         """Whether a text of this size, in place of the one before, is more than she may have."""
         if owner == 0:
             return False
         person = self.person_of(owner)
-        own = before.size if before.digest and self.person_of(before.rights.owner) == person else 0
+        own = before.text_bytes if self.person_of(before.rights.owner) == person else 0
         return self.stored[person] - own + size > self.budget.text_bytes
 
     def is_short(self, size: int) -> bool:
@@ -44,4 +44,4 @@ class Room:
         """Counts a text that takes the place of another one."""
         for node, sign in ((before, -1), (after, 1)):
             if node.digest:
-                self.stored[self.person_of(node.rights.owner)] += sign * node.size
+                self.stored[self.person_of(node.rights.owner)] += sign * node.text_bytes

@@ -44,7 +44,8 @@ class FreshFile:
     """A file that has to be looked at: a new one, or one whose status isn't the known one.
 
     `names` is how many of its names were seen. It is torn where two of them showed two statuses.
-    It is young where its status is the known one, but was looked at too soon.
+    It is young where its status is the known one, but was looked at too soon. `known` is the node
+    of one that is as it is known, and is looked at only to tell its kind.
     """
 
     identity: Identity
@@ -56,6 +57,7 @@ class FreshFile:
     is_young: bool = False
     names: int = 0
     is_torn: bool = False
+    known: Node | None = None
 
 
 @dataclass(frozen=True, slots=True)

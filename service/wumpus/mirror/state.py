@@ -18,11 +18,15 @@ from itertools import islice
 from pathlib import Path
 from typing import Any
 
+from ..extract.kinds import Known
 from .changes import Groups
-from .nodes import FIRST, Node, Rights, Tree, device_of, first_tree, identity_at, inode_of
+from .nodes import (
+    FIRST, Node, Origin, Rights, Tree, device_of, first_tree, identity_at, inode_of,
+)  # fmt: skip
 
-FORMAT = 2
-READ = (1, FORMAT)  # the first had one line for each directory
+FORMAT = 3
+# The first had one line for each directory, and the second knew no documents.
+READ = (1, 2, FORMAT)
 ADDED_AT_MOST = 16 << 20  # bytes of later batches, beside twice the whole state
 PIECE = 4096  # names of a directory in a line, which is in memory as a whole
 NAME = "mirror.state"
@@ -39,7 +43,8 @@ class State:
 
     `lists` tells whether the program knew access lists then, and `complete` whether all that there
     was had been looked at once; `following` is the number to try first for a new node. `unlisted`
-    tells how the rights of directories were read.
+    tells how the rights of directories were read, and `known` by what documents are known: each
+    file is of the kind that it is by that, but for those whose numbers are among the unsorted.
     """
 
     serial: str = ""
@@ -49,6 +54,22 @@ class State:
     lists: bool = False
     unlisted: bool = False
     complete: bool = False
+    known: Known = ()
+    unsorted: set[int] = field(default_factory=set)
+
+    def sort_by(self, known: Known) -> None:
+        """Has each file looked at again that may be of another kind, where kinds are known so.
+
+        Where kinds are only gone, it is the files of these.
+        """
+        if known == self.known:
+            return
+        gone = {name for name, _ in set(self.known) - set(known)}
+        is_less = tuple(one for one in self.known if one in known) == known
+        for number, node in self.tree.nodes.items():
+            if not node.is_directory and node.size and (not is_less or node.kind in gone):
+                self.unsorted.add(number)
+        self.known = known
 
     def forget_directories(self) -> None:
         """Has the rights of each directory read again."""
@@ -90,7 +111,7 @@ def new_serial(before: str) -> str:
 
 def _spell_node(node: Node) -> list[Any]:
     rights = node.rights
-    return [
+    told = [
         node.number,
         int(node.is_directory),
         rights.mode,
@@ -103,24 +124,35 @@ def _spell_node(node: Node) -> list[Any]:
         node.changed,
         node.size,
     ]
+    if node.origin is not None:
+        kind, source, by, length = node.origin
+        told.append([kind, source.hex(), by, length])
+    return told
 
 
 class _Reader:
-    """Makes nodes of what a file says; equal rights are kept once."""
+    """Makes nodes of what a file says; equal rights, and names of kinds, are kept once."""
 
     def __init__(self) -> None:
         self.rights: dict[tuple[int, int, int, str], Rights] = {}
+        self.words: dict[str, str] = {}
 
     def node(self, told: list[Any]) -> Node:
         """The node that was spelled."""
-        number, directory, mode, owner, group, entries, digest, device, inode, changed, size = told
+        number, directory, mode, owner, group, entries, digest = told[:7]
+        device, inode, changed, size, *more = told[7:]
         key = (mode, owner, group, entries)
         rights = self.rights.get(key)
         if rights is None:
             rights = self.rights[key] = Rights(mode, owner, group, entries.encode("ascii"))
         identity = identity_at(device, inode)
         text = bytes.fromhex(digest)
-        return Node(number, bool(directory), rights, text, identity, changed, size)
+        origin = self._origin(*more[0]) if more else None
+        return Node(number, bool(directory), rights, text, identity, changed, size, origin)
+
+    def _origin(self, kind: str, source: str, by: str, length: int) -> Origin:
+        kept = self.words.setdefault
+        return Origin(kept(kind, kind), bytes.fromhex(source), kept(by, by), int(length))
 
 
 def _pieces(names: dict[bytes, int]) -> Iterator[list[tuple[bytes, int]]]:
@@ -144,6 +176,8 @@ def spell_state(state: State) -> Iterator[str]:
         "lists": state.lists,
         "unlisted": state.unlisted,
         "complete": state.complete,
+        # Where some are unsorted, that begins anew with the next start: nothing else is lost.
+        "known": [] if state.unsorted else state.known,
         "users": [[user, *groups] for user, groups in state.users.items()],
         "lines": sum(max(1, -(-len(names) // PIECE)) for names in entries.values()),
     }
@@ -187,7 +221,8 @@ def read_state(path: Path) -> tuple[State, list[Addition]] | None:
                 told["serial"], Tree(), users, told["following"], told["lists"], unlisted
             )
             state.complete = told.get("complete", False)
-            for _ in range(told["lines" if told["format"] == FORMAT else "directories"]):
+            state.known = tuple((kind, by) for kind, by in told.get("known", ()))
+            for _ in range(told["directories" if told["format"] == 1 else "lines"]):
                 _read_directory(reader, state.tree, next(lines))
             additions = [_read_addition(reader, line) for line in lines if line.endswith("\n")]
     except FileNotFoundError:

@@ -30,6 +30,7 @@ class StatusFile:
         self.path = folder / NAME
         self.last = 0.0
         self.owners: dict[int, dict[str, int]] = {}  # names and bytes, as after the last walk
+        self.documents = self.unmade = 0  # all, and those of which no text was made yet
 
     def count(self, tree: Tree) -> None:
         """Counts names and bytes of texts by owner, after a walk."""
@@ -38,9 +39,13 @@ class StatusFile:
         nodes = tree.nodes
         for entries in tree.entries.values():
             names.update(nodes[child].rights.owner for child in entries.values())
+        self.documents = self.unmade = 0
         for node in nodes.values():
             if node.digest:
-                stored[node.rights.owner] += node.size
+                stored[node.rights.owner] += node.text_bytes
+            if node.origin is not None:
+                self.documents += 1
+                self.unmade += not node.origin.by
         owners = names.keys() | stored.keys()
         self.owners = {one: {"names": names[one], "bytes": stored[one]} for one in owners}
 
@@ -60,9 +65,10 @@ class StatusFile:
     def _told(self, mirror: Mirror | None, doing: str, trouble: str | None) -> dict[str, Any]:
         walked, pending, remarks = Walked(), Pending(), Remarks(lambda *_: None)
         held: list[str] = []
+        unread: str | None = None  # why documents have no text
         if mirror is not None:
             walked, pending, remarks = mirror.walked, mirror.pending, mirror.remarks
-            held = mirror.report.held
+            held, unread = mirror.report.held, mirror.documents.trouble
         return {
             "format": FORMAT,
             "written": time.time(),
@@ -75,6 +81,7 @@ class StatusFile:
                 "fed": walked.fed,
             },
             "pending": {"files": pending.files, "bytes": pending.bytes},
+            "documents": {"all": self.documents, "unmade": self.unmade, "trouble": unread},
             "owners": self._owners(remarks, pending),
             "shut": [
                 {"path": os.fsdecode(one.path), "owner": one.owner, "why": one.why.value}

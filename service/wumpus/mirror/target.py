@@ -4,9 +4,11 @@ What has to be looked at is shut in it, and so is what wasn't seen.
 """
 
 from collections import Counter
-from collections.abc import Container
+from collections.abc import Callable, Container
+from dataclasses import replace
 
 from .batch import CLOSED_NAME
+from .due import Due
 from .keep import Top, keep
 from .nodes import ROOT, Node, Rights, Tree, meet
 from .number import give_numbers
@@ -21,7 +23,10 @@ FEW = 1000  # nodes of which more than half may go without being held
 
 
 class Target:
-    """The tree, the files that have to be looked at, and the names of what is kept."""
+    """The tree, the files that have to be looked at, the documents of which text is to be made.
+
+    `is_due` tells of a document that stayed as it was whether its text is to be made.
+    """
 
     def __init__(
         self,
@@ -31,7 +36,10 @@ class Target:
         remarks: Remarks,
         waiting: Container[int],
         taken: set[int] | None = None,
+        is_due: Callable[[Node], bool] = lambda _: False,
     ) -> None:
+        self.is_due = is_due
+        self.due: list[Due] = []
         self.state = state
         self.waiting = waiting  # the numbers of files that waited for a look before this walk
         self.wider: set[SeenDirectory] = set()  # directories that show what they didn't before
@@ -63,8 +71,11 @@ class Target:
                 continue
             names[name] = child.number
             if isinstance(child, Node):
-                self.files += child.number not in self.tree.nodes
-                self.tree.nodes.setdefault(child.number, child)
+                if child.number not in self.tree.nodes:
+                    self.files += 1
+                    self.tree.nodes[child.number] = child
+                    if child.origin is not None and self.is_due(child):
+                        self.due.append(Due(directory, name, child.number))
             elif isinstance(child, FreshFile):
                 self._put_fresh(directory, name, child)
         before = self.state.tree.entries.get(number)
@@ -74,7 +85,7 @@ class Target:
         """Puts a file that has to be looked at into the tree, once: shut, until it is."""
         old = self.state.tree.nodes.get(file.number)
         before = self.tree.nodes.get(file.number)
-        if before is not None and before is not old:
+        if before is not None and (before is not old or file.known is not None):
             return
         self.files += before is None
         self.tree.nodes[file.number] = self._file(directory, name, file, old)
@@ -89,18 +100,18 @@ class Target:
         """The node of a file that has to be looked at: shut, but for what is as it was.
 
         What is young keeps text and rights until it is looked at, or the next walk comes, where
-        nobody is shown more than before by the way to it.
+        nobody is shown more than before by the way to it. What is looked at for its kind is known.
         """
         if old is None:
             rights = Rights(0, file.owner, file.group)
             return Node(file.number, False, rights, b"", file.identity, 0, 0)
+        if file.known is old and not file.is_torn:
+            return old
         is_there = self.state.tree.entries.get(directory.number, {}).get(name) == file.number
         is_same = file.is_young and not file.is_torn and file.names == 1 and is_there
         if is_same and directory not in self.wider and file.number not in self.waiting:
             return old
-        return Node(
-            file.number, False, old.rights.shut(), old.digest, file.identity, 0, old.size
-        )
+        return replace(old, rights=old.rights.shut(), identity=file.identity, changed=0)
 
     def _is_wider(self, directory: SeenDirectory) -> bool:
         """Whether a directory, or one above it, moved, or gives somebody more than before."""

@@ -2,27 +2,32 @@
 
 A turn is a walk; one batch of names and rights, in which all that has to be looked at is shut; and
 then looks at files, in slices between which the next walk may come. So what is taken away waits
-for no text.
+for no text. Where no file is left to be looked at, texts of documents are fed as they are made.
 """
 
 import math
 import shutil
 import sys
 import time
+from collections import Counter
 from collections.abc import Callable, Container
 from dataclasses import dataclass, field, replace
 from pathlib import Path
 from typing import BinaryIO
 
+from ..extract.kinds import Table
 from ..shared import clock
 from ..shared.progress import Progress
 from ..shared.script import NUMBER_MAX
 from .batch import Texts
 from .budget import Accounts, Budget
 from .changes import Groups, Pairs
+from .documents import Documents
+from .due import Due
 from .feed import Feeder
 from .limits import BadRoot, Limits, NotNarrow
 from .look import Looked, Looker
+from .making import Making
 from .narrow import NarrowTarget, part_of
 from .nodes import Node
 from .pending import FIRST, Pending, Place
@@ -34,8 +39,11 @@ from .room import Room
 from .state import State
 from .target import Target
 from .walk import Walk
+from .way import Ways
 
 SLICE_SECONDS = 20.0
+DOCUMENT_SECONDS = 5.0  # after which texts of documents are fed
+PULSE_SECONDS = 1.0  # that one of them is waited for at once
 FEED_SECONDS = 2.0  # that a batch of texts is to take, for which queries wait, and the next walk
 SLICE_BYTES = 16 << 20  # of texts in a batch at most
 SLICE_BYTES_FIRST = 4 << 20  # as long as it isn't known how fast the program is
@@ -48,7 +56,7 @@ class Wish:
     """What is to be mirrored: the roots, what is left out of them, the users, and the bounds.
 
     With `force` what is held is taken as it was found. What is at or below the paths of `first` is
-    looked at before all else.
+    looked at before all else. The table tells which files are documents.
     """
 
     roots: tuple[bytes, ...]
@@ -58,6 +66,7 @@ class Wish:
     person_of: Callable[[int], int] = int
     force: bool = False
     first: tuple[bytes, ...] = ()
+    table: Table = Table(())
 
 
 @dataclass(slots=True)
@@ -70,6 +79,8 @@ class Report:
     size: int = 0
     batches: int = 0
     shut: int = 0
+    documents: int = 0  # whose text was made
+    failed: Counter[str] = field(default_factory=Counter)  # documents, by why they have no text
     missing: list[str] = field(default_factory=list)  # roots that aren't there, and why
     held: list[str] = field(default_factory=list)  # what waits for --force, and why
 
@@ -97,6 +108,7 @@ class Mirror:
         progress: Progress,
         pulse: Callable[[], None] = lambda: None,
         planner: Planner | None = None,
+        documents: Documents | None = None,
     ) -> None:
         self.feeder = Feeder(reach, folder, progress, planner or Planner())
         self.reach = reach
@@ -104,6 +116,7 @@ class Mirror:
         self.progress = progress
         self.pulse = pulse
         self.pending = Pending()
+        self.documents = Documents(None) if documents is None else documents
         self.remarks = Remarks(progress.warn_of)
         self.report = Report()
         self.walked = Walked()
@@ -168,6 +181,8 @@ class Mirror:
         self.pulse()
         self.pending.renew(target.places, wish.person_of)
         self.pending.prefer(wish.first)
+        self.documents.queue.renew(target.due, self.state.tree.nodes, wish.person_of)
+        self._end_sorting(self.state.unsorted - self.state.tree.nodes.keys())
         self.accounts = Accounts(wish.budget, wish.person_of)
         self.room = None
         self._count()
@@ -211,11 +226,16 @@ class Mirror:
         self.feeder.batches = 0
         accounts = Accounts(wish.budget, wish.person_of)
         accounts.reserve(self.state.tree)
+        state = self.state
+        state.sort_by(wish.table.known)
+        self.documents.ask(wish.table)
         walk = Walk(
-            self.state.tree, wish.limits, accounts, self.remarks, self._seen, wish.force
+            state.tree, wish.limits, accounts, self.remarks, self._seen, wish.force, state.unsorted
         )
         top = walk.walk(wish.roots)
-        target = Target(self.state, walk, top, self.remarks, self._waiting(wish))
+        self.documents.settle()
+        is_due = self.documents.is_due
+        target = Target(state, walk, top, self.remarks, self._waiting(wish), is_due=is_due)
         self.report.missing = list(walk.missing.values())
         self.report.held = list(walk.held.values())
         if not wish.force and (count := target.hold()):
@@ -247,21 +267,25 @@ class Mirror:
                 self.progress.clear()
             self._count()
             self._be_complete()
-        return bool(self.pending.turns)
+        elif self.documents.has_work(wish.budget.documents):
+            self._make(wish, min(seconds, DOCUMENT_SECONDS))
+        return bool(self.pending.turns) or self.documents.has_work(wish.budget.documents)
 
     def _take(self, wish: Wish, until: float, texts: Texts, limit: float) -> list[Looked]:
         """Looks at files, of each person some in turn, until time is over or a batch is full."""
         if self.room is None:
             self.room = Room(self.folder, wish.budget, self.state.tree, wish.person_of)
-        looker = Looker(self.accounts, wish.limits.access, self.progress.warn_of)
+        looker = Looker(self.accounts, wish.limits.access, wish.table, self.progress.warn_of)
         taken: list[Looked] = []
         try:
             while time.monotonic() < until and texts.size < limit and len(taken) < self.most:
                 places = self.pending.take(self.most - len(taken))
                 if not places:
                     break
-                taken += self._look_at(looker, self.room, places, texts)
                 owner = places[0].file.owner
+                found = self._look_at(looker, self.room, places, texts)
+                self._note_documents(found, wish.person_of(owner))
+                taken += found
                 if self.state.complete and self.accounts.of_owner(owner).seconds <= 0:
                     self.pending.set_aside(wish.person_of(owner))
                 done, left = self.report.looked, self.pending.files
@@ -281,19 +305,26 @@ class Mirror:
         for place in places:
             self.report.looked += 1
             self.pending.is_done(place.file.number)
-            if room.is_exceeded(nodes[place.file.number], place.file.owner, place.cost):
+            before = nodes[place.file.number]
+            is_new = place.file.known is None
+            if is_new and room.is_exceeded(before, place.file.owner, place.text_bytes):
                 self._shut(place, Reason.BYTES)
             else:
                 waiting.append(place)
         taken = []
         for found in looker.look(waiting):
-            if not isinstance(found, Looked):
-                self._shut(found.place, found.why)
-                continue
             place, before = found.place, nodes[found.place.file.number]
+            if not isinstance(found, Looked):
+                if place.file.known is None:
+                    self._shut(place, found.why)
+                elif found.why is not Reason.TORN:
+                    self._end_sorting({before.number})
+                continue
             node = self._listed(place, found.node)
+            if node.origin is not None and node.origin.is_same(before.origin):
+                node.digest, node.origin = before.digest, before.origin
             if node.digest != before.digest:
-                if room.is_exceeded(before, node.rights.owner, node.size):
+                if node.digest and room.is_exceeded(before, node.rights.owner, node.size):
                     self._shut(place, Reason.BYTES)
                     continue
                 if room.is_short(len(found.text) + texts.size):
@@ -314,6 +345,74 @@ class Mirror:
     def _shut(self, place: Place, why: Reason) -> None:
         self.remarks.shut(why, place.file.owner, place.directory, place.name)
 
+    # ---- documents
+
+    def _note_documents(self, taken: list[Looked], person: int) -> None:
+        """Has text made of those documents among a person's files that were looked at."""
+        for found in taken:
+            if self.documents.is_due(found.node):
+                place = found.place
+                due = Due(place.directory, place.name, found.node.number)
+                self.documents.queue.add(due, person)
+
+    def _end_sorting(self, numbers: set[int]) -> None:
+        """Of which kind these are is known by now, and was fed."""
+        unsorted = self.state.unsorted
+        if unsorted:
+            unsorted -= numbers
+            if not unsorted:
+                self.feeder.save()
+
+    def _make(self, wish: Wish, seconds: float) -> None:
+        """Has text of documents made for so long, and feeds what was made."""
+        texts = Texts(self.folder)
+        try:
+            made = self._made(wish, time.monotonic() + seconds, texts)
+            if made:
+                self._feed_made(made, texts)
+        finally:
+            self.documents.unfed.clear()
+            texts.close()
+            self.progress.clear()
+        self._count()
+
+    def _made(self, wish: Wish, until: float, texts: Texts) -> list[Node]:
+        """The documents whose text was made, until time is over, a batch is full or none is due."""
+        if self.room is None:
+            self.room = Room(self.folder, wish.budget, self.state.tree, wish.person_of)
+        making = Making(self.documents, self.state.tree.nodes, self.room, texts, self.progress)
+        ways = Ways(self.accounts, wish.limits.access)
+        try:
+            while time.monotonic() < until and texts.size < self.slice_bytes:
+                seconds = min(until - time.monotonic(), PULSE_SECONDS)
+                if not making.go_on(ways, wish.budget.documents, seconds):
+                    break
+                self.pulse()
+        finally:
+            ways.close()
+        self.report.documents += making.count
+        self.report.failed += making.failed
+        return making.made
+
+    def _feed_made(self, made: list[Node], texts: Texts) -> None:
+        """Feeds what was made; where the program has no memory for that, it comes again later."""
+        nodes = self.state.tree.nodes
+        try:
+            self.feeder.feed_texts([(nodes[node.number], node) for node in made], texts)
+        except NoMemory:
+            self.room = None
+            for node in made:
+                self.documents.queue.put_off(node.number)
+            return
+        self._count_fed(texts)
+
+    def _count_fed(self, texts: Texts) -> None:
+        self.pulse()
+        self.report.texts += texts.count
+        self.report.size += texts.text_bytes
+
+    # ---- what was seen
+
     def _feed(self, wish: Wish, taken: list[Looked], texts: Texts) -> None:
         """Feeds what was seen; where the program has no memory for that, less comes next."""
         nodes = self.state.tree.nodes
@@ -329,9 +428,8 @@ class Mirror:
             self.most = len(taken) // 2
             self.pending.put_back([found.place for found in taken], wish.person_of)
             return
-        self.pulse()
-        self.report.texts += texts.count
-        self.report.size += texts.text_bytes
+        self._count_fed(texts)
+        self._end_sorting({found.node.number for found in taken})
         self.most = min(sys.maxsize, 2 * self.most)
         if texts.count:
             rate = texts.size / max(1e-3, time.monotonic() - began)
@@ -342,12 +440,17 @@ class Mirror:
     def dry_run(self, wish: Wish, out: BinaryIO) -> None:
         """Writes the lines and texts that a turn would feed, and feeds nothing."""
         old, target = self.state.tree, self._target(wish)
-        self.feeder.state = replace(self.state, tree=target.tree, complete=False)
+        nodes = target.tree.nodes
+        self.feeder.state = replace(self.state, tree=target.tree, complete=False, unsorted=set())
         self.pending.renew(target.places, wish.person_of)
+        self.documents.queue.renew(target.due, nodes, wish.person_of)
         texts = Texts(self.folder)
         try:
             found = self._take(wish, math.inf, texts, math.inf)
-            target.tree.nodes.update((one.node.number, one.node) for one in found)
+            nodes.update((one.node.number, one.node) for one in found)
+            while self.documents.has_work(wish.budget.documents):
+                made = self._made(wish, math.inf, texts)
+                nodes.update((node.number, node) for node in made)
             planner = self.feeder.planner
             plan = planner.plan(old, target.tree, self.state.users, wish.users)
             out.writelines(plan.head)

@@ -8,7 +8,7 @@ was known and is shut. An error at one name is that name's alone.
 
 import os
 import time
-from collections.abc import Callable
+from collections.abc import Callable, Container
 
 from .access import BadList
 from .budget import Accounts
@@ -32,7 +32,7 @@ class Walk:
     """One walk. `top` is `/` afterwards, and `found` all that was seen, by identity.
 
     `old` is the tree that the program has. Where `force` isn't set, what a file system that went
-    had is `held`: kept and shut.
+    had is `held`: kept and shut. The files of the `unsorted` numbers are looked at for their kind.
     """
 
     def __init__(
@@ -43,6 +43,7 @@ class Walk:
         remarks: Remarks,
         tick: Callable[[int], None],
         force: bool = False,
+        unsorted: Container[int] = (),
     ) -> None:
         self.old = old
         self.known = {node.identity: node for node in old.nodes.values()}
@@ -52,7 +53,7 @@ class Walk:
         self.tick = tick
         self.force = force
         self.systems = FileSystems(limits.one_file_system, self._tell_of_system)
-        self.names = Names(limits, self.known, self.systems, force)
+        self.names = Names(limits, self.known, self.systems, force, unsorted)
         self.found: dict[Identity, Entry] = {}
         self.ways = Ways(accounts, limits.access)
         self.top: SeenDirectory | None = None
