@@ -12,6 +12,7 @@ SERVICE_TESTS := \
 	bombs \
 	plan \
 	documents \
+	whole \
 	fair \
 	kernel \
 	requests \

@@ -12,7 +12,10 @@ import os
 import random
 import subprocess
 import sys
+import threading
+import time
 from collections import Counter
+from contextlib import suppress
 from pathlib import Path
 
 from extracting import EXTRACT, Extracting, has, made, text
@@ -21,10 +24,13 @@ from harness import Score, folder_of_own, needs_root, options
 from wumpus.extract import asker, samples, system  # isort: skip
 from wumpus.extract.calls import Action, Rule, program_of  # isort: skip
 from wumpus.extract.client import Extractor  # isort: skip
+from wumpus.extract.documents import Document  # isort: skip
+from wumpus.extract.frames import HEAD, HINT, TEXT, WITHIN  # isort: skip
 from wumpus.extract.kinds import BUILT_IN, BadTable, table_of  # isort: skip
-from wumpus.extract.reasons import Reason  # isort: skip
+from wumpus.extract.reasons import Ended, Reason, Way  # isort: skip
 from wumpus.extract.tidy import tidied  # isort: skip
-from wumpus.extract.texts import Failed, Made  # isort: skip
+from wumpus.extract.texts import Failed, Made, text_of  # isort: skip
+from wumpus.extract.walls import Allowance  # isort: skip
 from wumpus.shared.words import words_of  # isort: skip
 
 WORDS = (
@@ -369,6 +375,58 @@ def programs(folder: Path, score: Score) -> None:
     extracting.close()
 
 
+class Slow:
+    """Workers that rest for a while, and then write what is given: a box, and texts within it."""
+
+    def __init__(self, within: int, seconds: float) -> None:
+        frames = b"".join(
+            HEAD.pack(HINT, 3) + b"htm" + HEAD.pack(WITHIN, 1) + b"W" for _ in range(within)
+        )
+        self.written = {"mail": frames, "html": HEAD.pack(TEXT, 2) + b"W\n"}
+        self.seconds = seconds
+
+    def is_program(self, kind: str) -> bool | None:
+        """It makes boxes and pages."""
+        return False if kind in self.written else None
+
+    def begin(self, kind: str, _: Document, allowed: Allowance) -> "SlowRun":
+        """Begins one."""
+        return SlowRun(self.written[kind], self.seconds, allowed.patience)
+
+
+class SlowRun:
+    """One of them. It takes nothing of the processor."""
+
+    def __init__(self, written: bytes, seconds: float, patience: float) -> None:
+        self.output, writing = os.pipe()
+        self.patience = patience
+
+        def write() -> None:
+            time.sleep(seconds)
+            with suppress(BrokenPipeError):
+                os.write(writing, written)
+            os.close(writing)
+
+        threading.Thread(target=write).start()
+
+    def end(self) -> Ended:
+        """It ends well."""
+        os.close(self.output)
+        return Ended(Way.EXIT)
+
+
+def by_the_clock(score: Score) -> None:
+    """A file with all that is within it is late by the clock, also where each worker is in time."""
+    for within, due in ((2, Made), (40, Failed)):
+        with Document.of(b"W") as document:
+            began = time.monotonic()
+            told = text_of(Slow(within, 0.3), table_of(BUILT_IN), b"a.eml", document, 1)
+            spent = time.monotonic() - began
+        why = told.reason if isinstance(told, Failed) else None
+        right = isinstance(told, due) and why in (None, Reason.LATE) and spent < 6
+        score.check(right, f"{within} within: {told} in {spent:.1f} s")
+
+
 def asking(folder: Path, score: Score) -> None:
     """A user's own texts: lines, pages and paragraphs, at most ten documents a question."""
     documents = {
@@ -385,7 +443,7 @@ def asking(folder: Path, score: Score) -> None:
         process = os.fork()
         if process == 0:
             os.setresuid(user, user, user)
-            asks = asker.Asker()
+            asks = asker.Asker(table_of(BUILT_IN))
             for name in documents:
                 os.write(tells, (_place(asks, folder / name) + "\n").encode())
             left = [_place(asks, folder / "a.html") for _ in range(10)].count("-")
@@ -405,12 +463,13 @@ def asking_without(folder: Path, score: Score) -> None:
     process = os.fork()
     if process == 0:
         os.setresuid(EXTRACT, EXTRACT, EXTRACT)
-        asks = asker.Asker()
+        asks = asker.Asker(table_of(BUILT_IN))
         slow = _place(asks, folder / "slow.html") + _place(asks, folder / "a.html")
         system.forbid_new_privileges()
         rules = [Rule("landlock_create_ruleset", Action.NOT_KNOWN)]
         system.filter_calls(program_of(rules, Action.ALLOW))
-        os.write(tells, (slow + _place(asker.Asker(), folder / "a.html")).encode())
+        behind = _place(asker.Asker(table_of(BUILT_IN)), folder / "a.html")
+        os.write(tells, (slow + behind).encode())
         os._exit(0)
     os.close(tells)
     with os.fdopen(told) as places:
@@ -436,6 +495,7 @@ def main() -> int:
     score = Score("extract")
     signs(score)
     kinds(score)
+    by_the_clock(score)
     needs_root("extract")
     with folder_of_own() as name:
         folder = Path(name)

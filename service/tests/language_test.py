@@ -32,6 +32,7 @@ from wumpus.ask.search import Meant  # isort: skip
 from wumpus.ask.suggestions import fronts_of, slips_between  # isort: skip
 from wumpus.ask.translation import Translation  # isort: skip
 from wumpus.ask.tree import And, Fault, Filter, Not, Span, Subject  # isort: skip
+from wumpus.shared.lines import Lines  # isort: skip
 
 # What is typed, the expression over files, and how many operators that has.
 EXPRESSIONS = (
@@ -460,11 +461,12 @@ def lines(score: Score) -> None:
     found = Matcher(meant.question.texts, meant.forms, Scope.FILE).shown(text)
     chosen = [one.number for one in best(found, 2)]
     score.check(chosen == [1, 3], f"the two best lines: {chosen}")
-    groups = grouped(text, [one for one in found if one.number in (1, 3)], Around(1, 1))
+    told_of = Lines(text)
+    groups = grouped(told_of, [one for one in found if one.number in (1, 3)], Around(1, 1))
     numbers = [[(row.number, row.spans is not None) for row in group] for group in groups]
     due_numbers = [[(1, True), (2, False), (3, True), (4, False)]]
     score.check(numbers == due_numbers, f"lines around: {numbers}")
-    groups = grouped(text, [one for one in found if one.number in (1, 5)], Around(0, 1))
+    groups = grouped(told_of, [one for one in found if one.number in (1, 5)], Around(0, 1))
     numbers = [[(row.number, row.spans is not None) for row in group] for group in groups]
     score.check(numbers == [[(1, True), (2, False)], [(5, True), (6, False)]], f"{numbers}")
 

@@ -221,12 +221,15 @@ def _may_page(wish: Wish) -> bool:
 
 
 def open_result(results: list[Result], number: int) -> int:
-    """Opens one of the results in an editor, at its first line that matches."""
+    """Opens one of the results in an editor, at its first line that matches.
+
+    The lines of a document are none of the file's.
+    """
     if number > len(results):
         raise Trouble(f"there are {len(results)} results")
     result = results[number - 1]
     first = next(result.rows(), None)
-    return open_in_editor(result.path, first.number if first else 1)
+    return open_in_editor(result.path, first.number if first and not first.place else 1)
 
 
 # ---- the run

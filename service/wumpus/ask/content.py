@@ -2,28 +2,70 @@
 
 import os
 import stat
+from enum import Enum
+from typing import TYPE_CHECKING
 
+from ..extract.documents import DOCUMENT_MAX
+from ..extract.kinds import BadTable, Table, table_here
+from ..shared.lines import Lines
 from ..shared.script import TEXT_MAX
+from ..shared.texts import FRONT
+
+if TYPE_CHECKING:
+    from ..extract.asker import Asker
 
 _FLAGS = os.O_RDONLY | os.O_NOFOLLOW | os.O_NONBLOCK | os.O_NOCTTY | os.O_CLOEXEC
 
 
-def lines_of_file(path: bytes) -> list[bytes] | None:
-    """The lines without their LF, or None where it is no file that was indexed as it is.
+class Lack(Enum):
+    """Why there are no lines; the value is what is told of it."""
 
-    The file may have changed since then, or be something else that was put in its place.
-    """
-    try:
-        descriptor = os.open(path, _FLAGS)
-    except OSError:
-        return None
-    with open(descriptor, "rb") as file:
-        status = os.fstat(descriptor)
-        if not stat.S_ISREG(status.st_mode) or status.st_size > TEXT_MAX:
-            return None
+    CHANGED = "changed since it was indexed"
+    UNMADE = "no lines of it are made here"
+
+
+class Reader:
+    """Reads files, and has the lines of documents made behind walls: of ten for a question."""
+
+    def __init__(self) -> None:
+        self.asker: "Asker | None" = None
         try:
-            text = file.read(TEXT_MAX)
+            self.table = table_here()
+        except (BadTable, OSError):
+            self.table = Table(())
+
+    def begin(self) -> None:
+        """Another question."""
+        if self.asker is not None:
+            self.asker.begin()
+
+    def lines_of(self, path: bytes) -> Lines | Lack:
+        """The lines, or why there are none.
+
+        The file may have changed since then, or be something else that was put in its place.
+        """
+        try:
+            descriptor = os.open(path, _FLAGS)
         except OSError:
-            return None
-    lines = text.split(b"\n")
-    return lines if lines[-1] else lines[:-1]
+            return Lack.CHANGED
+        with open(descriptor, "rb") as file:
+            status = os.fstat(descriptor)
+            if not stat.S_ISREG(status.st_mode) or status.st_size > DOCUMENT_MAX:
+                return Lack.CHANGED
+            name = path.rpartition(b"/")[2]
+            try:
+                if self.table.kind_of(name, os.pread(descriptor, FRONT, 0)) is not None:
+                    return self._lines_of_document(name, descriptor)
+                text = file.read(TEXT_MAX) if status.st_size <= TEXT_MAX else b""
+            except OSError:
+                return Lack.CHANGED
+        lines = text.split(b"\n")
+        return Lines(lines if lines[-1] else lines[:-1])
+
+    def _lines_of_document(self, name: bytes, descriptor: int) -> Lines | Lack:
+        """The lines of a document's text. What makes it is loaded with the first one."""
+        if self.asker is None:
+            from ..extract.asker import Asker
+
+            self.asker = Asker(self.table)
+        return self.asker.lines_of(name, descriptor) or Lack.UNMADE

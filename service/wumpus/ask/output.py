@@ -14,6 +14,7 @@ from dataclasses import dataclass
 from enum import Enum, auto
 from typing import IO, Any
 
+from ..shared.lines import Lines
 from ..shared.progress import plain
 from .matching import Shown
 from .tree import text_of
@@ -97,11 +98,21 @@ class Around:
 
 @dataclass(frozen=True)
 class Row:
-    """A line to write: its number from 1, and what to mark; None where it has no match."""
+    """A line to write: its number from 1, and what to mark; None where it has no match.
+
+    Of a document `place` is told in place of its number, and `page` is that on which it is.
+    """
 
     number: int
     text: bytes
     spans: Spans | None
+    place: str = ""
+    page: int | None = None
+
+    @property
+    def where(self) -> bytes:
+        """What is told of its place."""
+        return (self.place or str(self.number)).encode()
 
 
 @dataclass(frozen=True)
@@ -118,8 +129,9 @@ class Result:
         return (row for group in self.groups for row in group if row.spans is not None)
 
 
-def grouped(lines: Sequence[bytes], shown: Sequence[Shown], around: Around) -> list[list[Row]]:
+def grouped(told: Lines, shown: Sequence[Shown], around: Around) -> list[list[Row]]:
     """The lines with matches and those around them; a new group where lines are left out."""
+    lines = told.lines
     groups: list[list[Row]] = []
     spans = {one.number: one.spans for one in shown}
     last = 0
@@ -129,7 +141,9 @@ def grouped(lines: Sequence[bytes], shown: Sequence[Shown], around: Around) -> l
             groups.append([])
         end = min(max(one.number + around.after, last), len(lines))
         for number in range(first, end + 1):
-            groups[-1].append(Row(number, lines[number - 1].rstrip(b"\r"), spans.get(number)))
+            place = "" if told.is_file else told.place(number)
+            text = lines[number - 1].rstrip(b"\r")
+            groups[-1].append(Row(number, text, spans.get(number), place, told.page(number)))
         last = max(last, end)
     return [group for group in groups if group]
 
@@ -168,7 +182,7 @@ class Writer:
                 self.out.write(b"  --\n")
             for row in group:
                 sign = b"- " if row.spans is None else b": "
-                self.out.write(b"  %d%b%b\n" % (row.number, sign, _marked(row, self.style)))
+                self.out.write(b"  %b%b%b\n" % (row.where, sign, _marked(row, self.style)))
 
     def _write_rows(self, result: Result) -> None:
         path = self.style.head(result.path)
@@ -178,7 +192,7 @@ class Writer:
             for row in group:
                 if self.format is Format.LINES:
                     sign = b"-" if row.spans is None else b":"
-                    parts = [path, b"%d" % row.number, _marked(row, self.style)]
+                    parts = [path, row.where, _marked(row, self.style)]
                     self.out.write(sign.join(parts) + b"\n")
                 elif row.spans is not None:
                     column = row.spans[0][0] + 1 if row.spans else 1
@@ -225,14 +239,15 @@ def json_of(result: Result) -> dict[str, Any]:
     value: dict[str, Any] = {"path": result.path}
     if result.score is not None:
         value["score"] = result.score
-    lines = [
-        _with_bases({"line": row.number, "text": row.text, "spans": list(row.spans or ())})
-        for row in result.rows()
-    ]
-    value["lines"] = lines
+    value["lines"] = [_with_bases(_value_of(row)) for row in result.rows()]
     if result.note:
         value["note"] = result.note
     return value
+
+
+def _value_of(row: Row) -> dict[str, Any]:
+    page = {} if row.page is None else {"page": row.page}
+    return {"line": row.number, **page, "text": row.text, "spans": list(row.spans or ())}
 
 
 def as_json(value: dict[str, Any]) -> bytes:

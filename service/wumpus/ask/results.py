@@ -4,13 +4,12 @@ from collections.abc import Iterator, Sequence
 from dataclasses import dataclass
 from enum import Enum, auto
 
-from .content import lines_of_file
+from ..shared.lines import Lines
+from .content import Lack, Reader
 from .expression import Scope
 from .matching import Matcher, Shown
 from .output import Around, Result, Row, grouped
 from .search import File, Meant, Place
-
-CHANGED = "changed since it was indexed"
 
 
 class Choice(Enum):
@@ -33,34 +32,41 @@ class Share:
 def of_files(files: Sequence[File], meant: Meant, share: Share) -> Iterator[Result]:
     """The files with their lines that match."""
     matcher = Matcher(meant.question.texts, meant.forms, Scope.FILE)
+    reader = Reader()
     for file in files:
         if share.choice is Choice.NONE or not matcher.parts:
             yield Result(file.path, file.score, ())
             continue
-        lines = lines_of_file(file.path) or []
+        told = reader.lines_of(file.path)
+        if isinstance(told, Lack):
+            yield Result(file.path, file.score, (), told.value)
+            continue
         if share.choice is Choice.BEST:
-            found = matcher.best(lines, max(share.lines, 1))
+            found = matcher.best(told.lines, max(share.lines, 1))
         else:
-            found = matcher.shown(lines)
-        note = "" if found else CHANGED
+            found = matcher.shown(told.lines)
+        note = "" if found else Lack.CHANGED.value
         chosen = found[: share.lines]
-        yield Result(file.path, file.score, grouped(lines, chosen, share.around), note)
+        yield Result(file.path, file.score, grouped(told, chosen, share.around), note)
 
 
 def of_places(places: Sequence[Place], meant: Meant, around: Around) -> Iterator[Result]:
     """The lines that were found, by file; as they were indexed where the file has changed."""
     matcher = Matcher(meant.question.texts, meant.forms, Scope.LINE)
+    reader = Reader()
     by_path: dict[bytes, list[Place]] = {}
     for place in places:
         by_path.setdefault(place.path, []).append(place)
     for path, some in by_path.items():
-        lines = lines_of_file(path) or []
-        if all(_is_still_there(place, lines) for place in some):
+        told = reader.lines_of(path)
+        lines = told.lines if isinstance(told, Lines) else []
+        if isinstance(told, Lines) and all(_is_still_there(place, lines) for place in some):
             shown = [_line_shown(place.line, lines[place.line - 1], matcher) for place in some]
-            yield Result(path, None, grouped(lines, shown, around))
+            yield Result(path, None, grouped(told, shown, around))
         else:
             rows = [[_row_of(place, lines, matcher)] for place in some]
-            yield Result(path, None, rows, CHANGED)
+            lack = told if isinstance(told, Lack) else Lack.CHANGED
+            yield Result(path, None, rows, lack.value)
 
 
 def of_each_file(places: Sequence[Place], most: int) -> list[Place]:
@@ -75,8 +81,12 @@ def of_each_file(places: Sequence[Place], most: int) -> list[Place]:
 
 
 def _is_still_there(place: Place, lines: Sequence[bytes]) -> bool:
-    """Whether a line begins as it did when it was indexed."""
-    return place.line <= len(lines) and lines[place.line - 1].startswith(place.snippet)
+    """Whether a line begins as it did when it was indexed.
+
+    A document's form feeds were taken away from its lines.
+    """
+    line = lines[place.line - 1] if place.line <= len(lines) else None
+    return line is not None and line.startswith((place.snippet, place.snippet.strip(b"\f")))
 
 
 def _line_shown(number: int, line: bytes, matcher: Matcher) -> Shown:

@@ -4,11 +4,10 @@ A search mustn't run a hostile document of somebody else with the rights of its 
 """
 
 import os
-from dataclasses import dataclass
 
-from ..shared.texts import FRONT
+from ..shared.lines import Lines
 from .documents import DOCUMENT_MAX, Document
-from .kinds import LINES_OF_FILE, PAGED, BadTable, Table, table_here
+from .kinds import LINES_OF_FILE, PAGED, Table
 from .own import OwnWorkers
 from .reasons import Reason
 from .tasks import load, tasks_of
@@ -18,26 +17,6 @@ from .walls import Missing
 MADE_MAX = 10  # documents for one question
 SECONDS = 2  # of the processor for one of them: who asks waits
 _PIECE = 1 << 20
-
-
-@dataclass(frozen=True)
-class Lines:
-    """The lines of a document's text, and how the place of each is told."""
-
-    lines: list[bytes]  # without LF and form feeds
-    pages: list[int]  # the page or slide of each; empty where there are none
-    is_file: bool  # they are those of the file itself, or of what is packed in it
-
-    def page(self, number: int) -> int | None:
-        """The page of a line, whose number begins with 1; None where there are no pages."""
-        return self.pages[number - 1] if self.pages else None
-
-    def place(self, number: int) -> str:
-        """What stands before a line: its number in the file, its page, or its paragraph."""
-        page = self.page(number)
-        if page is not None:
-            return f"p. {page}"
-        return str(number) if self.is_file else f"par. {number}"
 
 
 def lines_of(made: Made) -> Lines:
@@ -57,18 +36,15 @@ def lines_of(made: Made) -> Lines:
 class Asker:
     """Makes the texts of at most ten documents, and of none after one that took too long."""
 
-    def __init__(self) -> None:
+    def __init__(self, table: Table) -> None:
         self.left = MADE_MAX
         self.workers: OwnWorkers | None = None
         self.is_ready = False
-        try:
-            self.table = table_here()
-        except (BadTable, OSError):
-            self.table = Table(())
+        self.table = table
 
-    def is_document(self, name: bytes, front: bytes) -> bool:
-        """Tells whether a file with this name that begins so is a document."""
-        return self.table.kind_of(name, front[:FRONT]) is not None
+    def begin(self) -> None:
+        """Another question: as many documents once more."""
+        self.left = MADE_MAX
 
     def lines_of(self, name: bytes, descriptor: int) -> Lines | None:
         """The lines of a document's file that is open for reading, from its beginning.

@@ -16,7 +16,7 @@ from typing import Any
 
 from ..ask import language
 from ..ask.asking import Asking, Refused, Trouble
-from ..ask.content import lines_of_file
+from ..ask.content import Lack, Reader
 from ..ask.explain import Why, too_long
 from ..ask.expression import Scope, TooLong
 from ..ask.forms import Forms, Marks, find_forms
@@ -26,6 +26,7 @@ from ..ask.output import Layer, Style, cut, shown, text_shown
 from ..ask.paths import condition_of, standing_here
 from ..ask.search import File, Meant, Search
 from ..ask.tree import Fault, Or, Question, Span, text_of
+from ..shared.lines import Lines
 from ..shared.script import SHOWN_MAX
 from .guard import Refusal
 
@@ -57,6 +58,9 @@ class Answers:
         self.given = 0
         self.last: Meant | None = None  # the last question, whose matches a file shows
         self.asked_at = time.monotonic()
+        self.reader = Reader()  # for the lines of results
+        self.opener = Reader()  # for files that are opened, one after the other
+        self.opening = threading.Lock()
 
     # ---- calls
 
@@ -82,15 +86,18 @@ class Answers:
         if path is None:
             raise Refusal(404, "this file wasn't a result")
         self.asked_at = time.monotonic()
-        lines = lines_of_file(path)
-        if lines is None:
-            return {"path": _name(path), "note": "it can't be read any more"}
+        with self.opening:
+            self.opener.begin()
+            told = self.opener.lines_of(path)
+        if isinstance(told, Lack):
+            note = "it can't be read any more" if told is Lack.CHANGED else told.value
+            return {"path": _name(path), "note": note}
         last = self.last
         found: list[Shown] = []
         if last is not None:
             matcher = Matcher(last.question.texts, last.forms, Scope.FILE)
-            found = matcher.shown(lines)
-        return {"path": _name(path), **_text_of_file(lines, found)}
+            found = matcher.shown(told.lines)
+        return {"path": _name(path), **_text_of_file(told, found)}
 
     @contextmanager
     def _turn(self) -> Iterator[bool]:
@@ -166,6 +173,7 @@ class Answers:
         """Files with their best lines, as long as these are quickly read."""
         matcher = Matcher(meant.question.texts, meant.forms, Scope.FILE)
         until = time.monotonic() + READING
+        self.reader.begin()
         for file in files:
             value: Value = {"file": self._number_of(file.path), "path": _name(file.path)}
             if not matcher.parts:
@@ -173,10 +181,13 @@ class Answers:
             elif time.monotonic() > until:
                 yield {**value, "lines": [], "note": "open it to see its lines"}
             else:
-                lines = lines_of_file(file.path) or []
-                found = matcher.best(lines, LINES)
-                note = "" if found else "changed since it was indexed"
-                rows = [_row(one, lines[one.number - 1], True) for one in found]
+                told = self.reader.lines_of(file.path)
+                if isinstance(told, Lack):
+                    yield {**value, "lines": [], "note": told.value}
+                    continue
+                found = matcher.best(told.lines, LINES)
+                note = "" if found else Lack.CHANGED.value
+                rows = [_row(one, told, True) for one in found]
                 yield {**value, "lines": rows, "note": note}
 
     def _number_of(self, path: bytes) -> int:
@@ -281,9 +292,9 @@ def _name(path: bytes) -> str:
     return shown(path, PLAIN).decode()
 
 
-def _row(one: Shown, line: bytes, is_cut: bool) -> Value:
+def _row(one: Shown, told: Lines, is_cut: bool) -> Value:
     """A line, in pieces of which every second one is a match."""
-    line = line.rstrip(b"\r")
+    line = told.lines[one.number - 1].rstrip(b"\r")
     spans: Sequence[tuple[int, int]] = one.spans
     if is_cut:
         line, spans = cut(line, spans)
@@ -292,15 +303,17 @@ def _row(one: Shown, line: bytes, is_cut: bool) -> Value:
     for start, end in spans:
         pieces += [_shown_text(line[last:start]), _shown_text(line[start:end])]
         last = end
-    return {"line": one.number, "text": [*pieces, _shown_text(line[last:])]}
+    place = told.place(one.number)
+    return {"line": one.number, "place": place, "text": [*pieces, _shown_text(line[last:])]}
 
 
 def _shown_text(text: bytes) -> str:
     return text_shown(text, PLAIN).decode()
 
 
-def _text_of_file(lines: Sequence[bytes], found: Sequence[Shown]) -> Value:
+def _text_of_file(told: Lines, found: Sequence[Shown]) -> Value:
     """The lines of a file; of a long one those around its matches."""
+    lines = told.lines
     matches = {one.number: one for one in found}
     wanted: Sequence[int] = range(1, len(lines) + 1)
     note = ""
@@ -311,7 +324,7 @@ def _text_of_file(lines: Sequence[bytes], found: Sequence[Shown]) -> Value:
     rows = []
     size = 0
     for number in wanted:
-        rows.append(_row(matches.get(number, Shown(number, (), 0)), lines[number - 1], bool(note)))
+        rows.append(_row(matches.get(number, Shown(number, (), 0)), told, bool(note)))
         size += len(lines[number - 1])
         if len(rows) == TEXT_LINES or size > TEXT_BYTES:
             note = f"the file is long: it is shown to line {number}"

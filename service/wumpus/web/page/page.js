@@ -39,7 +39,7 @@ function line(row) {
   row.text.forEach((piece, place) => {
     text.append(place % 2 ? element("mark", {}, piece) : piece);
   });
-  return element("div", { class: "row" }, element("span", {}, String(row.line)), text);
+  return element("div", { class: "row" }, element("span", {}, row.place), text);
 }
 
 function named(path) {
