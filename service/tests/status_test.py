@@ -26,6 +26,7 @@ def of_mirror(now: float) -> dict[str, Any]:
         "format": 1, "written": now, "state": "waiting", "trouble": None,
         "walk": {"began": now - 30, "seconds": 2.5, "names": 102300, "fed": now - 26},
         "pending": {"files": 3, "bytes": 4_500_000},
+        "documents": {"all": 120, "unmade": 12, "trouble": "no\x1b server"},
         "owners": {
             "0": {"names": 10, "bytes": 100, "shut": {}},
             "4000000001": {"names": 7, "bytes": 2000, "shut": {"torn": 2, "budget-names": 40}},
@@ -84,7 +85,8 @@ def texts(place: Place, score: Score) -> None:
     for due in (
         "30 s old", "starts: 2; 123.0 MB", "ended: the program ended with status 4",
         "77 answered", "2 tooslow", "5 connections, 1 queries wait", "9 fed, 1 failed",
-        "2.5 s, 102300 names", "3 files, 4.5 MB", "4000000001: 7, 2.0 kB",
+        "2.5 s, 102300 names", "3 files, 4.5 MB",
+        "12 of 120 documents have no text yet: no\\x1b server", "4000000001: 7, 2.0 kB",
         "40 budget-names, 2 torn",
         "/home/nfs: nfs4", "/home/evil\\x1b[31m\\x0a\\xff: torn",
     ):  # fmt: skip
@@ -127,7 +129,7 @@ def needs_attention(place: Place, score: Score) -> None:
     status, out, _ = place.run("--old", "10")
     score.check(status == ATTENTION, f"--old: {out}")
     score.check(place.run("--old", "nan")[0] == TROUBLE, "--old: a number that none is old beside")
-    place.put("mirror.status", of_mirror(time.time()) | {"walk": None})
+    place.put("mirror.status", of_mirror(time.time()) | {"walk": None, "documents": None})
     score.check(place.run()[0] == WELL, "a mirror that has just begun")
 
 
@@ -160,6 +162,7 @@ def strange(place: Place, score: Score) -> None:
         "a user": lambda: values({"owners": {"x": {"names": 0, "bytes": 0, "shut": {}}}}),
         "a time past all calendars": lambda: values({"written": 1e300}),
         "no number": lambda: values({"written": float("nan")}),
+        "a negative count of documents": lambda: values({"documents": {"all": -1}}),
         "a negative count": lambda: values({"pending": {"files": -1, "bytes": 0}}),
         "a huge one": huge,
     }

@@ -128,6 +128,15 @@ class LeftOut:
 
 
 @dataclass(frozen=True)
+class Documents:
+    """How many there are, of how many no text was made yet, and why none is, where that is so."""
+
+    all: int
+    unmade: int
+    trouble: str | None
+
+
+@dataclass(frozen=True)
 class MirrorStatus:
     """What the mirror tells."""
 
@@ -141,6 +150,7 @@ class MirrorStatus:
     shut: list[Shut]
     left_out: list[LeftOut]
     held: str | None
+    documents: Documents | None = None
 
     def shut_by_reason(self) -> dict[str, int]:
         """How much is shut by each word, of all owners."""
@@ -256,7 +266,16 @@ def _mirror_of(told: Fields) -> MirrorStatus:
         ],
         left_out=[LeftOut(one.text("path"), one.text("why")) for one in told.objects("left_out")],
         held=told.text_or_none("held"),
+        documents=_documents_of(told),
     )
+
+
+def _documents_of(told: Fields) -> Documents | None:
+    """What is told of documents; None by a mirror that knows none."""
+    if told.values.get("documents") is None:
+        return None
+    of = told.object("documents")
+    return Documents(of.whole("all"), of.whole("unmade"), of.text_or_none("trouble"))
 
 
 def _user_of(owners: Fields, word: str) -> int:

@@ -71,6 +71,10 @@ def _of_mirror(mirror: MirrorStatus) -> Iterator[str]:
         yield f"           fed {'not yet' if walk.fed is None else moment(walk.fed)}"
     pending = size(mirror.pending_bytes)
     yield f"  to look  {mirror.pending_files} files, {pending}"
+    documents = mirror.documents
+    if documents is not None and documents.all:
+        why = f": {plain(documents.trouble)}" if documents.unmade and documents.trouble else ""
+        yield f"  to read  {documents.unmade} of {documents.all} documents have no text yet{why}"
 
 
 def _of_owners(mirror: MirrorStatus, whole: bool) -> Iterator[str]:

@@ -214,8 +214,14 @@ class _Reasons:
     def about_text(self) -> Iterator[str]:
         """Where she is told of the file's path, and not of its text."""
         node, step = self.known[-1].node, self.steps[-1]
-        if step.kind is Kind.FILE and step.size and not node.digest:
+        if step.kind is not Kind.FILE or not step.size or node.digest:
+            return
+        if node.origin is None:
             yield "no word of it is found: it is over 16 MiB, or it has bytes that no text has"
+        elif node.origin.by:
+            yield f"no word of it is found: a document ({node.kind}) that has no text"
+        else:
+            yield f"no word of it is found: a document ({node.kind}) whose text isn't made yet"
 
 
 def _sentence(word: str) -> str:
