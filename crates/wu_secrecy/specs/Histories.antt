@@ -7,7 +7,7 @@ use Rattle.wu_script.specs.Said.{IsReading, Reading}
 use Rattle.wu_options.specs.declared.command_lines.Settings.{Settings}
 use Rattle.wu_query.specs.States.{State}
 use Rattle.wumpus_run.specs.declared.statuses.Status.{Status}
-use Rattle.wumpus_run.specs.Permitted.{Reaches}
+use Rattle.wumpus_run.specs.Courses.{Reaches}
 use Rattle.wumpus_run.specs.Replies.{Rules, state_after}
 use Rattle.wumpus_run.specs.Session.{Moment}
 use Rattle.wu_secrecy.specs.Turns.{Turn, asked_by, asked_in, is_asked_by, output_in, told_to, turn_of, turns_of}

@@ -1,12 +1,10 @@
 -- The life of a machine: runs over one store, each of which finds it as the last one left it, or as a crash then left it.
-use Rattle.std.specs.Prelude.{◌≡◌, ◌⊎◌, ℕ, ◌<◌, List, [], ◌∷◌, ◌++◌, length, take, Some}
-use Rattle.std.specs.Io.KnownBytes.{Appends}
+use Rattle.std.specs.Prelude.{◌≡◌, ◌⊎◌, ℕ, List, [], ◌∷◌, Some}
 use Rattle.std.specs.List.{AllByRecursion}
 use Rattle.wu_outside.specs.Content.{Content}
 use Rattle.wu_outside.specs.Crash.{AreAlike, LeftNow, Moments, starts_with}
 use Rattle.wu_outside.specs.Surviving.{LeavesNow, LeavesOnly}
 use Rattle.wu_layout.specs.Invariants.{SomeOf}
-use Rattle.wu_script.specs.Commands.{Entry}
 use Rattle.wu_script.specs.Items.{items_of}
 use Rattle.wu_script.specs.Said.{Reading}
 use Rattle.wu_options.specs.declared.command_lines.Settings.{Settings}
@@ -15,9 +13,9 @@ use Rattle.wu_engine.specs.Crashes.{IsImageOf}
 use Rattle.wu_engine.specs.Opening.{HoldsImage}
 use Rattle.wumpus_run.specs.declared.statuses.Status.{Status}
 use Rattle.wumpus_run.specs.declared.statuses.Status.TheVariants.{Done}
-use Rattle.wumpus_run.specs.Crashes.{IsUnopened, LeavesAcknowledged, LeavesLast, LeavesSaves, last_save, left_to_next, next_save, saves_of}
-use Rattle.wumpus_run.specs.Replies.{output_of, state_after}
-use Rattle.wumpus_run.specs.Permitted.{AnswersInTurn}
+use Rattle.wumpus_run.specs.Courses.{Reaches, TakesCourse, acknowledged_items, unacknowledged_items}
+use Rattle.wumpus_run.specs.Crashes.{IsUnopened, last_save, left_to_next, next_save, saves_of}
+use Rattle.wumpus_run.specs.Replies.{state_after}
 use Rattle.wumpus_run.specs.Session.{FromImage, Moment}
 use Rattle.wu_secrecy.specs.Histories.{AreCoursesOf, Course, Session, rules_with, session_from}
 
@@ -34,18 +32,13 @@ pub record Run : Type 0 where
   pub old : Moments
   pub new : Moments
 
--- What the contract of `run` says of it in the clause `turns`, and in the parts `crash`, `durable` and `acknowledged` of the clause
--- `survives`; and that its store tells alike what it holds and what a crash leaves. A run that is killed is taken to be one whose source,
--- sink and store fail from then on: nothing here proves that it is.
+-- What the contract of `run` says of it in the clause `course`; and that its store tells alike what it holds and what a crash leaves. A run
+-- that is killed is taken to be one whose source, sink and store fail from then on: nothing here proves that it is.
 pub record IsRun (run : Run) : Type 0 where
   pub given : run.before.left ≡ Some run.input
-  pub turns : FromImage run.before.holds (λ s. AnswersInTurn s run.status (Some run.told) run.before run.now)
-  pub crash : FromImage run.before.holds (λ s.
-      LeavesSaves s (Some run.told) run.before.holds run.before.left (Some run.old) (Some run.new))
-  pub durable : run.status ≡ Done
-      → FromImage run.before.holds (λ s. LeavesLast s (Some run.told) run.before.holds run.before.left (Some run.new))
-  pub acknowledged : FromImage run.before.holds (λ s.
-      LeavesAcknowledged s run.status (Some run.told) run.before run.now (Some run.old) (Some run.new))
+  pub old : run.before.moments ≡ Some run.old
+  pub new : run.now.moments ≡ Some run.new
+  pub course : FromImage run.before.holds (λ s. TakesCourse s run.status (Some run.told) run.before run.now)
   pub alike : AreAlike run.now.holds (Some run.new)
 
 -- ---- lives
@@ -82,20 +75,14 @@ IsLife first (run ∷ later) = Begins first run × AreInTurn run later × AllByR
 abbrev pub Started : Type 0
 Started = Run × State
 
--- The sink gained the replies to these items, and of the next one's less than the whole; the state is the last save of these, or the next.
+-- The state is the last save whose whole reply the sink has, by how far the run came, or the next one.
 pub record IsAcknowledged (read : Reading) (started : Started) (s : State) : Type 0 where
-  pub answered : List Entry
-  pub left : List Entry
-  pub all : items_of started.0.input ≡ answered ++ left
-  pub part : List ℕ
-  pub gained : Appends started.0.before.gained started.0.now.gained
-      (output_of (rules_with read started.0.told) started.1 answered ++ part)
-  pub cut : (part ≡ [])
-      ⊎ ((missing : List ℕ) × (0 < length missing)
-      × (part ++ missing ≡ output_of (rules_with read started.0.told) (state_after (rules_with read started.0.told) started.1 answered)
-      (take 1 left)))
-  pub is : (s ≡ last_save (rules_with read started.0.told) started.1 answered)
-      ⊎ (s ≡ next_save (rules_with read started.0.told) (state_after (rules_with read started.0.told) started.1 answered) left)
+  pub came : Reaches (rules_with read started.0.told) started.1 (items_of started.0.input) started.0.status started.0.before.gained
+      started.0.now.gained
+  pub is : (s ≡ last_save (rules_with read started.0.told) started.1 (acknowledged_items came.answered came.under_way came.missing))
+      ⊎ (s ≡ next_save (rules_with read started.0.told)
+      (state_after (rules_with read started.0.told) started.1 (acknowledged_items came.answered came.under_way came.missing))
+      (unacknowledged_items came.under_way came.later came.missing))
 
 -- the state that a run saved last: what its items leave where it was done, else the last save whose reply its sink has, or the next one
 abbrev pub IsSavedBy : Reading → Started → State → Type 0

@@ -5,7 +5,7 @@ ghost use Rattle.wu_script.specs.Said.{Reading};
 ghost use Rattle.wu_options.specs.CommandLines.{command_line_of, texts_of};
 ghost use Rattle.wu_options.specs.declared.command_lines.Settings.{Settings};
 ghost use Rattle.wu_query.specs.States.{State};
-ghost use Rattle.wumpus_run.specs.Ended.{IsSession};
+ghost use Rattle.wumpus_run.specs.Ended.{IsOutcome};
 ghost use Rattle.wumpus_run.specs.Session.{FromImage, IsUsage, moment, settings_of};
 ghost use Rattle.wu_secrecy.specs.Histories.{BeginsAlike, Course, HasCourse, IsCourseOf, TellAlike, session_from};
 ghost use Rattle.wu_secrecy.specs.Lives.{IsRun};
@@ -27,7 +27,7 @@ pub fn run_in_turns<I: Source, O: Sink, D: Store>(
 ) -> Status
     requires { I.ended source.old ≡ false }
     ensures usage { IsUsage result (command_line_of (texts_of words.now)) }
-    ensures session { IsSession result (settings_of (texts_of words.now))
+    ensures session { IsOutcome result (settings_of (texts_of words.now))
         (moment I.Source O.Sink D.Store source.old sink.old store.old)
         (moment I.Source O.Sink D.Store source.new sink.new store.new) }
     ensures course { FromImage (D.holds store.old) (λ s.
@@ -68,11 +68,11 @@ pub fn two_runs_tell_her_alike<I: Source, O: Sink, D: Store, J: Source, P: Sink,
     requires one { I.ended source.old ≡ false }
     requires other { J.ended other_source.old ≡ false }
     ensures usage { IsUsage result.0 (command_line_of (texts_of words.now)) }
-    ensures session { IsSession result.0 (settings_of (texts_of words.now))
+    ensures session { IsOutcome result.0 (settings_of (texts_of words.now))
         (moment I.Source O.Sink D.Store source.old sink.old store.old)
         (moment I.Source O.Sink D.Store source.new sink.new store.new) }
     ensures other_usage { IsUsage result.1 (command_line_of (texts_of other_words.now)) }
-    ensures other_session { IsSession result.1 (settings_of (texts_of other_words.now))
+    ensures other_session { IsOutcome result.1 (settings_of (texts_of other_words.now))
         (moment J.Source P.Sink E.Store other_source.old other_sink.old other_store.old)
         (moment J.Source P.Sink E.Store other_source.new other_sink.new other_store.new) }
     ensures one { FromImage (D.holds store.old) (λ s.

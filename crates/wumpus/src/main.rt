@@ -4,7 +4,7 @@
 ghost use Rattle.std.specs.Prelude.{◌≡◌, ◌≤◌, false, map, string_bytes, IfErr, IfOk, None};
 ghost use Rattle.std.specs.Process.{exit_status};
 ghost use Rattle.wu_options.specs.CommandLines.{command_line_of, texts_of};
-ghost use Rattle.wumpus_run.specs.Ended.{IsSession};
+ghost use Rattle.wumpus_run.specs.Ended.{IsOutcome};
 ghost use Rattle.wumpus_run.specs.Session.{IsUsage, code_of, moment, settings_of};
 
 mod arguments;
@@ -133,7 +133,7 @@ fn run_over<I: Source, O: Sink + Drop, D: Store + Drop>(
 ) -> Ran<O, D>
     requires { I.ended source.old ≡ false }
     ensures usage { IsUsage result.status (command_line_of (texts_of words.now)) }
-    ensures session { IsSession result.status (settings_of (texts_of words.now))
+    ensures session { IsOutcome result.status (settings_of (texts_of words.now))
         (moment I.Source O.Sink D.Store source.old sink store)
         (moment I.Source O.Sink D.Store source.new result.sink result.store) }
 {
@@ -159,7 +159,7 @@ fn run_watched<I: Source, O: Sink + Drop, D: Store + Drop>(
 ) -> Ran<O, D>
     requires { I.ended source.old ≡ false }
     ensures usage { IsUsage result.status (command_line_of (texts_of words.now)) }
-    ensures session { IsSession result.status (settings_of (texts_of words.now))
+    ensures session { IsOutcome result.status (settings_of (texts_of words.now))
         (moment I.Source O.Sink D.Store source.old sink store)
         (moment I.Source O.Sink D.Store source.new result.sink result.store) }
 {

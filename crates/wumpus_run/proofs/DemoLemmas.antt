@@ -35,7 +35,7 @@ use Rattle.wumpus_run.specs.Replies.{after, met, reply_to}
 use Rattle.wumpus_run.specs.Ended.{status_of_fault}
 use Rattle.wumpus_run.specs.Demo.{IfDemo, IsDemoLine, IsFew, IsReady, IsShown, IsTallyOf, IsUnderWay}
 use Rattle.wumpus_run.specs.Demo.{counted, counted_all, demo_line, no_reply, tally_from}
-use Rattle.wumpus_run.proofs.EndStatuses.{writing}
+use Rattle.wumpus_run.proofs.Endings.EndStatuses.{writing}
 use Rattle.wumpus_run.proofs.SessionLemmas.{first_item}
 use Rattle.wumpus_run.proofs.AddressRoom.{HasRoom-none, StaysLow-none}
 

@@ -213,21 +213,6 @@ module _ (told : Settings) (start : State) where
       part rules are.0 before between now input left rest s item other next (sent rules are)
       (subst (GainsPrefix between now) (same ∙ replies) gained)
 
-  -- ---- where no reply was cut
-
-  -- the replies to some items with which those of the input begin were sent, and nothing else
-  abbrev pub AreItems : Option Content → Option (List ℕ) → Option (List ℕ) → Option (List ℕ) → Type 0
-  AreItems holds before now input = IfSome input (λ bytes. (rules : Rules) → AreRules holds told rules
-      → (answered left : List Entry) × (items_of bytes ≡ answered ++ left) × Appends before now (output_of rules start answered))
-
-  pub AreItems-sent : (holds : Option Content) (before now input left : Option (List ℕ)) (s : State)
-      → HasAnswered holds before now input left s → AreItems holds before now input
-  AreItems-sent holds before now None left s sent = tt
-  AreItems-sent holds before now (Some input) None s sent = λ rules are. absurd (sent rules are)
-  AreItems-sent holds before now (Some input) (Some left) s sent = λ rules are.
-      let done = sent rules are in
-      (done.answered, items_of left, done.split, done.gained)
-
   -- ---- the end of the script
 
   -- where no byte is left, the items of the input were answered

@@ -14,7 +14,7 @@ use Rattle.wu_engine.specs.States.{after_event, followed, step, stepped, texts_a
 use Rattle.wumpus_run.specs.Replies.{after, after_operation, last_state}
 
 -- one tree and the same texts, indexed in whatever way
-abbrev HaveSameFiles : State → State → Type 0
+abbrev pub HaveSameFiles : State → State → Type 0
 HaveSameFiles s t = (s.tree ≡ t.tree) × (s.texts ≡ t.texts)
 
 followed_alike : (one other : ℕ) (s t : State) (text : List ℕ) (r : Result (FileSystem × Effect) Refusal) → HaveSameFiles s t
@@ -38,20 +38,20 @@ operation_alike s t (Work units) same = same
 operation_alike s t Stat same = same
 operation_alike s t Save same = same
 
-after_alike : (one other : ℕ) (s t : State) (said : Said) → HaveSameFiles s t → HaveSameFiles (after one s said) (after other t said)
+pub after_alike : (one other : ℕ) (s t : State) (said : Said) → HaveSameFiles s t → HaveSameFiles (after one s said) (after other t said)
 after_alike one other s t (Happens event text) same = event_alike one other s t event text same
 after_alike one other s t (Asks uid question) same = same
 after_alike one other s t (Operates operation) same = operation_alike s t operation same
 after_alike one other s t (IsRefused why) same = same
 after_alike one other s t SaysNothing same = same
 
-last_alike : (one other : ℕ) (s t : State) (saids : List Said) → HaveSameFiles s t
+pub last_alike : (one other : ℕ) (s t : State) (saids : List Said) → HaveSameFiles s t
     → HaveSameFiles (last_state one s saids) (last_state other t saids)
 last_alike one other s t [] same = same
 last_alike one other s t (said ∷ saids) same =
     last_alike one other (after one s said) (after other t said) saids (after_alike one other s t said same)
 
-view_alike : (s t : State) (uid : ℕ) → HaveSameFiles s t → view_of s uid ≡ view_of t uid
+pub view_alike : (s t : State) (uid : ℕ) → HaveSameFiles s t → view_of s uid ≡ view_of t uid
 unfolding view_of
 view_alike s t uid same =
     ap (λ (tree : FileSystem). map (shown_of s.texts) (files_of tree uid)) same.0

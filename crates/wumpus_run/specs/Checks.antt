@@ -3,8 +3,6 @@ use Rattle.std.specs.Prelude.{◌≡◌, ◌⊎◌, ℕ, List, [], ◌∷◌, �
 use Rattle.std.specs.Io.KnownBytes.{Appends}
 use Rattle.wu_base.specs.declared.reports.Stat.{Stat}
 use Rattle.wu_outside.specs.Content.{Content}
-use Rattle.wu_outside.specs.Crash.{Moments}
-use Rattle.wu_outside.specs.declared.ranges.ReadRange.{ReadRange}
 use Rattle.wu_outside.specs.declared.traits.Fault.{Fault}
 use Rattle.wu_outside.specs.declared.traits.Fault.TheVariants.{Failed}
 use Rattle.wu_outside.specs.declared.traits.Fault.TheVariants as faults
@@ -49,15 +47,13 @@ pub record FindsStore (status : Status) (holds : Option Content) (before now : O
   pub prefix : IfSome holds (λ content. Appends before now []
       ⊎ ((checked : Checked) × IsChecked content checked × GainsPrefix before now (check_line checked)))
 
--- The store was checked, and is as it was, also for a crash. `old` and `new` are what one could leave before and after, and `earlier` and
--- `later` what had been read.
-pub record ChecksStore (status : Status) (before now : Moment) (old new : Option Moments) (earlier later : Option (List ReadRange))
-    : Type 0 where
+-- The store was checked, and is as it was, also for a crash.
+pub record ChecksStore (status : Status) (before now : Moment) : Type 0 where
   pub found : FindsStore status before.holds before.gained now.gained
   pub holds : now.holds ≡ before.holds
-  pub moments : new ≡ old
+  pub moments : now.moments ≡ before.moments
   -- the first ones were read of what there is to read, in that order, and nothing else
-  pub ranges : IfSome before.holds (λ content. ReadsFrontOf (MayBeRead content) earlier later)
+  pub ranges : IfSome before.holds (λ content. ReadsFrontOf (MayBeRead content) before.reads now.reads)
 
 -- where the command line is that of a check
 abbrev pub IfCheck : Option CommandLine → Type 0 → Type 0

@@ -1,21 +1,18 @@
--- What a crash in a session leaves of the store, and what one after it.
-use Rattle.std.specs.Prelude.{◌≡◌, ◌⊎◌, ℕ, ◌<◌, List, [], ◌∷◌, ◌++◌, length, map, take, Option, IfSome}
+-- What a session saves, item by item, and what a crash leaves of that.
+use Rattle.std.specs.Prelude.{◌≡◌, ◌⊎◌, ℕ, List, [], ◌∷◌, ◌++◌, map, Option}
 use Rattle.std.specs.List.{flat_map}
-use Rattle.std.specs.Io.KnownBytes.{Appends}
 use Rattle.wu_outside.specs.Content.{Content}
 use Rattle.wu_outside.specs.Crash.{Moments}
-use Rattle.wu_outside.specs.Surviving.{IsLeft, LeavesNow, LeavesOnly}
+use Rattle.wu_outside.specs.Surviving.{IsLeft}
 use Rattle.wu_layout.specs.Invariants.{SomeOf}
 use Rattle.wu_script.specs.Commands.{Entry, Flush, Save, Stat, Work}
-use Rattle.wu_script.specs.Items.{items_of}
 use Rattle.wu_script.specs.Said.{Asks, Happens, IsRefused, Operates, Said, SaysNothing, said_of}
-use Rattle.wu_options.specs.declared.command_lines.Settings.{Settings}
 use Rattle.wu_query.specs.States.{State}
-use Rattle.wu_engine.specs.Crashes.{IsImageOf, IsImageOfEither}
+use Rattle.wu_engine.specs.Crashes.{IsImageOf}
 use Rattle.wu_engine.specs.States.{rested_state, saved_state}
 use Rattle.wumpus_run.specs.declared.statuses.Status.{Status}
-use Rattle.wumpus_run.specs.declared.statuses.Status.TheVariants.{Done, NoMemory, StoreFault, Spent}
-use Rattle.wumpus_run.specs.Replies.{AreRules, Met, Rules, met, output_of, state_after}
+use Rattle.wumpus_run.specs.declared.statuses.Status.TheVariants.{NoMemory, StoreFault, Spent}
+use Rattle.wumpus_run.specs.Replies.{Met, Rules, met, state_after}
 use Rattle.wumpus_run.specs.Session.{Moment}
 
 -- ---- what is saved
@@ -68,52 +65,20 @@ last_save rules s entries = last_or s (saved_by rules s entries)
 abbrev pub next_save : Rules → State → List Entry → State
 next_save rules s entries = first_or (left_to_next (state_after rules s entries)) (saved_by rules s entries)
 
--- ---- a crash since the start
+-- what was saved by the time that these items were reached, and those were to come: the state that the session started from, what the
+-- reached items save, and, where no other is to come, what they leave
+abbrev pub saves_so_far : Rules → State → List Entry → List Entry → List State
+saves_so_far rules s reached [] = saves_of rules s reached
+saves_so_far rules s reached (entry ∷ later) = s ∷ saved_by rules s reached
 
--- each content that a crash since the session's start may leave could be left before, or is an image of one of its saves
-abbrev pub LeavesSaves : State → Option Settings → Option Content → Option (List ℕ) → Option Moments → Option Moments → Type 0
-LeavesSaves start settings holds left before now = IfSome settings (λ told. IfSome left (λ input. (rules : Rules)
-    → AreRules holds told rules
-    → LeavesOnly before now (λ content. IsLeft before content ⊎ IsImageOfOne (saves_of rules start (items_of input)) content)))
+-- what a crash could leave at the start, or an image of one of these saves
+abbrev pub IsLeftOrSaved : Option Moments → List State → Content → Type 0
+IsLeftOrSaved old saves content = IsLeft old content ⊎ IsImageOfOne saves content
 
--- a crash after the session leaves an image of what its items leave
-abbrev pub LeavesLast : State → Option Settings → Option Content → Option (List ℕ) → Option Moments → Type 0
-LeavesLast start settings holds left now = IfSome settings (λ told. IfSome left (λ input. (rules : Rules) → AreRules holds told rules
-    → LeavesNow now (IsImageOf (left_to_next (state_after rules start (items_of input))))))
-
--- ---- a crash after it
-
--- The sink gained the replies to the items with which the script begins, and of the reply to the next one a part, less than the whole. A
--- crash leaves an image of the last save of those, whose reply the sink has, or of the next save.
-pub record Acknowledges (rules : Rules) (start : State) (items : List Entry) (before now : Option (List ℕ)) (moments : Option Moments)
-    : Type 0 where
-  pub answered : List Entry
-  pub left : List Entry
-  pub all : items ≡ answered ++ left
-  pub part : List ℕ
-  pub gained : Appends before now (output_of rules start answered ++ part)
-  pub cut : (part ≡ [])
-      ⊎ ((missing : List ℕ) × (0 < length missing) × (part ++ missing ≡ output_of rules (state_after rules start answered) (take 1 left)))
-  pub leaves : LeavesNow moments
-      (IsImageOfEither (last_save rules start answered) (next_save rules (state_after rules start answered) left))
+-- ---- no session
 
 -- the session ended before it took a byte of its input: there was no memory, the store failed, or it leaves no room
 pub record IsUnopened (status : Status) (before now : Moment) : Type 0 where
   pub ended : (status ≡ NoMemory) ⊎ ((status ≡ StoreFault) ⊎ ((next : ℕ) × (status ≡ Spent next)))
   pub untaken : now.left ≡ before.left
   pub unwritten : now.gained ≡ before.gained
-
--- a crash after the session leaves an image of the last save whose reply the sink has, or of the next one; where it didn't open the
--- store, only what could be left before
-abbrev pub LeavesAcknowledged : State → Status → Option Settings → Moment → Moment → Option Moments → Option Moments → Type 0
-LeavesAcknowledged start status settings before now old new = IfSome settings (λ told. IfSome before.left (λ input. (rules : Rules)
-    → AreRules before.holds told rules
-    → IsUnopened status before now × LeavesNow new (IsLeft old)
-    ⊎ Acknowledges rules start (items_of input) before.gained now.gained new))
-
--- what a crash in the session and after it leaves, however it ended
-pub record Survives (start : State) (status : Status) (settings : Option Settings) (before now : Moment) (old new : Option Moments)
-    : Type 0 where
-  pub crash : LeavesSaves start settings before.holds before.left old new
-  pub durable : status ≡ Done → LeavesLast start settings before.holds before.left new
-  pub acknowledged : LeavesAcknowledged start status settings before now old new

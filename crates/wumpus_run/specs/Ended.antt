@@ -4,7 +4,6 @@ use Rattle.wu_base.specs.declared.memory.NoMemory.{NoMemory as Unread}
 use Rattle.wu_base.specs.declared.troubles.Trouble.{Trouble}
 use Rattle.wu_base.specs.declared.troubles.Trouble.TheVariants as troubles
 use Rattle.wu_outside.specs.Content.{Content}
-use Rattle.wu_outside.specs.Crash.{Moments}
 use Rattle.wu_outside.specs.declared.traits.Fault.{Fault}
 use Rattle.wu_outside.specs.declared.traits.Fault.TheVariants.{Failed}
 use Rattle.wu_outside.specs.declared.traits.Fault.TheVariants as faults
@@ -22,8 +21,8 @@ use Rattle.wu_engine.specs.Going.{HasBroken}
 use Rattle.wu_engine.specs.Opening.{HasRoot}
 use Rattle.wu_engine.specs.declared.faults.BeginFault.{BeginFault}
 use Rattle.wu_engine.specs.declared.faults.BeginFault.TheVariants as opening
-use Rattle.wumpus_run.specs.Session.{AnswersAll, AnswersPrefix, AnswersTaken, FromImage, HoldsNothingBack, IsCounted, IsSpent, IsTooLong}
-use Rattle.wumpus_run.specs.Session.{KeepsStrays, LeavesNoStray, Moment, OpensAlone, PutsOnlyDrawn, SavesAll, StaysShut, StaysWithin}
+use Rattle.wumpus_run.specs.Session.{AnswersAll, AnswersPrefix, AnswersTaken, AsksBriefly, FromImage, HoldsNothingBack, IsCounted, IsSpent}
+use Rattle.wumpus_run.specs.Session.{IsTooLong, KeepsStrays, LeavesNoStray, Moment, OpensAlone, SavesAll, StaysShut, StaysWithin}
 use Rattle.wumpus_run.specs.Session.{TakesAll}
 
 -- what the arguments ask for, as they were read, or how a session ends that can't begin
@@ -68,12 +67,12 @@ pub record Ends (start : State) (status : Status) (settings : Option Settings) (
   -- and a prefix of that for the bytes that were taken: where none was, nothing
   pub only_taken : AnswersTaken start settings before now
   -- Where the source failed or gave too much, exactly the replies to the whole items that it gave; where sink or store failed or there
-  -- was no memory, at least those to the whole items before the bytes of the source's last read. Where the store failed, no reply was cut.
+  -- was no memory, at least those to the whole items before the bytes of the source's last read.
   pub prompt : HoldsNothingBack start status settings before now
 
 -- What a session did, however it ended, where these settings were asked for. What is said of its output is said from each state of which
 -- the store held an image.
-pub record IsSession (status : Status) (settings : Option Settings) (before now : Moment) : Type 0 where
+pub record IsOutcome (status : Status) (settings : Option Settings) (before now : Moment) : Type 0 where
   pub usage : status ≡ Usage → settings ≡ None
   -- On Done the input was read to its end, and the sink gained the replies to its items, and nothing else. The store holds an image of the
   -- state after them, and no other blob but those that an earlier session left.
@@ -89,14 +88,15 @@ pub record IsSession (status : Status) (settings : Option Settings) (before now 
   -- a store that holds an image of a state is never called damaged, and it is called spent exactly where it is
   pub damaged : FromImage before.holds (λ s. (blob : ℕ) → status ≡ Damaged blob → ⊥)
   pub spent : IsSpent status settings before.holds
-  -- no byte after the one past the limit was taken
+  -- no byte after the one past the limit was taken, and no more were asked for at once than may be
+  pub asked : AsksBriefly before now
   pub taken : StaysWithin settings before now
   pub ends : FromImage before.holds (λ s. Ends s status settings before now)
 
 -- ---- what became of the store
 
 -- What became of the blobs of the store, whatever the status.
-pub record KeepsBlobs (settings : Option Settings) (before now : Moment) : Type 0 where
+pub record KeepsBlobs (before now : Moment) : Type 0 where
   -- No blob below the root's next one is written over: as long as the root is the one from before all are as they were, and some are gone
   -- only where the root names a checkpoint with a number from that next one on.
   pub earlier : (content : Content) → before.holds ≡ Some content → (root : Root) → HasRoot content root
@@ -105,14 +105,11 @@ pub record KeepsBlobs (settings : Option Settings) (before now : Moment) : Type 
   pub checkpoint : KeepsCheckpoint 0 before.holds now.holds
   -- No blob is touched that an earlier session left below the next one without a name.
   pub strays : FromImage before.holds (λ s. KeepsStrays s.layout before.holds now.holds)
-  -- None is there that wasn't, but those that the state names which the answered items left, and those that may have been drawn for the
-  -- next item, or for the save at the end: in all, numbers from the next one on.
-  pub puts : FromImage before.holds (λ s. PutsOnlyDrawn s settings before now)
 
--- What became of a store that a session only opened, or couldn't open. `old` and `new` are what a crash could leave before and after.
-pub record OpensOnly (status : Status) (settings : Option Settings) (before now : Moment) (old new : Option Moments) : Type 0 where
+-- What became of a store that a session only opened, or couldn't open.
+pub record OpensOnly (status : Status) (settings : Option Settings) (before now : Moment) : Type 0 where
   -- before a byte is taken the store is only opened, and that syncs it once
-  pub opens : OpensAlone before now old new
+  pub opens : OpensAlone before now
   -- where the store leaves no room it holds what it held
   pub unopened : (next : ℕ) → status ≡ Spent next → now.holds ≡ before.holds
   -- where what it holds can't be opened, it holds the same afterwards, and no byte was taken or written

@@ -6,9 +6,10 @@ pub mod Replies
 pub mod Taking
 pub mod Session
 pub mod Ended
--- what was read of the store, and what a crash leaves of it
+-- what its items read and save, and the course of a session by one cut of them
 pub mod Permitted
 pub mod Crashes
+pub mod Courses
 -- the line of a demonstration
 pub mod Demo
 -- a check of the store
@@ -17,6 +18,7 @@ pub mod Checks
 pub mod Rebuilt
 -- ---- What only private functions and proofs need
 
+pub mod Outcomes
 pub mod Started
 pub mod Kept
 pub mod Rests

@@ -1,5 +1,5 @@
 -- What a session did, by what source, sink and store told before and after it.
-use Rattle.std.specs.Prelude.{◌≡◌, ℕ, ◌+◌, ◌≤◌, ◌<◌, ◌⊎◌, ◌↔◌, List, [], ◌∷◌, ◌++◌, length, take, ⊤, Option, Some, None, IfSome, IsSome}
+use Rattle.std.specs.Prelude.{◌≡◌, ℕ, ◌+◌, ◌≤◌, ◌<◌, ◌⊎◌, ◌↔◌, List, [], ◌∷◌, length, take, max, ⊤, Option, Some, None, IfSome, IsSome}
 use Rattle.std.specs.Prelude.{option_and_then, option_map}
 use Rattle.std.specs.Io.KnownBytes.{Appends, Consumes}
 use Rattle.wu_base.specs.declared.limits.TheConstants.{SPENT_AT, BLOBS_SPENT_AT, READ_MAX}
@@ -30,25 +30,33 @@ use Rattle.wu_script.specs.Said.{Happens, Operates, Said, said_of}
 use Rattle.wumpus_run.specs.Replies.{Rules, AreRules, output_of, state_after}
 use Rattle.wumpus_run.specs.Taking.{TakesExactly, TakesAtMost, GainsAtLeast}
 
--- what source, sink and store tell at a moment: the bytes that the source has left, those that the sink gained and what the store
--- holds, where they tell it; how many bytes the source's last read gave; and how many calls of each failed
+-- What source, sink and store tell at a moment, where they tell it.
 pub record Moment : Type 0 where
+  -- of the source: the bytes that it has left, how many its last read gave and the most that one asked for, and how many reads failed
   pub left : Option (List ℕ)
   pub last_read : ℕ
+  pub most_asked : ℕ
   pub read_faults : ℕ
+  -- of the sink: the bytes that it gained, and how many writes failed
   pub gained : Option (List ℕ)
   pub write_faults : ℕ
+  -- of the store: what it holds, which ranges were read, what a crash leaves, and how many calls failed
   pub holds : Option Content
+  pub reads : Option (List ReadRange)
+  pub moments : Option Moments
   pub store_faults : ℕ
 
 abbrev pub moment : {I O D : Type 0} → sources.Ghosts I → sinks.Ghosts O → stores.Ghosts D → I → O → D → Moment
 moment Source Sink Store source sink store = record {
   left = Source.left source;
   last_read = Source.last_read source;
+  most_asked = Source.most_asked source;
   read_faults = Source.faults source;
   gained = Sink.gained sink;
   write_faults = Sink.faults sink;
   holds = Store.holds store;
+  reads = Store.reads store;
+  moments = Store.moments store;
   store_faults = Store.faults store;
 }
 
@@ -93,9 +101,9 @@ abbrev pub UnlessTaken : Option (List ℕ) → Option (List ℕ) → Type 0 → 
 UnlessTaken before now IsSo = IfSome before (λ input. 0 < length input → now ≡ before → IsSo)
 
 -- Where no byte was taken of an input that has one, the store was opened at most: it holds what it held, and was synced once or not.
-abbrev pub OpensAlone : Moment → Moment → Option Moments → Option Moments → Type 0
-OpensAlone before now old new =
-    UnlessTaken before.left now.left ((now.holds ≡ before.holds) × ((new ≡ old) ⊎ (new ≡ option_map settle old)))
+abbrev pub OpensAlone : Moment → Moment → Type 0
+OpensAlone before now = UnlessTaken before.left now.left
+    ((now.holds ≡ before.holds) × ((now.moments ≡ before.moments) ⊎ (now.moments ≡ option_map settle before.moments)))
 
 -- ---- what was taken, and which fault came
 
@@ -103,6 +111,10 @@ OpensAlone before now old new =
 pub record IsCounted (fault status : Status) (before now : ℕ) : Type 0 where
   pub rose : status ≡ fault → Rose before now
   pub calm : (status ≡ fault → ⊥) → now ≡ before
+
+-- No read that didn't fail asked for more than READ_MAX bytes at once, also of a long text.
+abbrev pub AsksBriefly : Moment → Moment → Type 0
+AsksBriefly before now = now.most_asked ≤ max before.most_asked READ_MAX
 
 -- The source gave at most one byte past the limit.
 abbrev pub StaysWithin : Option Settings → Moment → Moment → Type 0
@@ -171,22 +183,6 @@ HasOnlyDrawn start (Some first) layout most (Some now) =
     (blob : ℕ) → IsSome (now.blobs blob) → IsNamed layout blob
     ⊎ ((IsSome (first.blobs blob) × (IsNamed start blob → ⊥)) ⊎ ((layout.blob ≤ blob) × (blob < layout.blob + most)))
 
--- Some first items were answered, whose replies the sink gained, and of the reply to the next one a part. The store has no blob more but
--- those that the state names which they left, and those that may have been drawn for the next one.
-pub record PutsFor (rules : Rules) (start : State) (items : List Entry) (before now : Moment) : Type 0 where
-  pub answered : List Entry
-  pub left : List Entry
-  pub all : items ≡ answered ++ left
-  pub part : List ℕ
-  pub missing : List ℕ
-  pub reply : output_of rules (state_after rules start answered) (take 1 left) ≡ part ++ missing
-  pub gained : Appends before.gained now.gained (output_of rules start answered ++ part)
-  pub drawn : HasOnlyDrawn start.layout before.holds (state_after rules start answered).layout (drawn_next rules left) now.holds
-
-abbrev pub PutsOnlyDrawn : State → Option Settings → Moment → Moment → Type 0
-PutsOnlyDrawn start settings before now = IfSome settings (λ told. IfSome before.left (λ input.
-    (rules : Rules) → AreRules before.holds told rules → PutsFor rules start (items_of input) before now))
-
 -- ---- what was written, from a state on
 
 -- The input has at most as many bytes as it may, and none is left.
@@ -223,12 +219,6 @@ AnswersAllButOneRead start settings before now = IfSome settings (λ told. (give
     × ((rules : Rules) → AreRules before.holds told rules
     → GainsAtLeast before.gained now.gained (output_of rules start (whole_items_of (but_last now.last_read given)))))
 
--- The sink gained exactly the output for some items with which those of the input begin: no reply was cut.
-abbrev pub AnswersItems : State → Option Settings → Moment → Moment → Type 0
-AnswersItems start settings before now = IfSome settings (λ told. IfSome before.left (λ input.
-    (rules : Rules) → AreRules before.holds told rules → (answered left : List Entry) × (items_of input ≡ answered ++ left)
-    × Appends before.gained now.gained (output_of rules start answered)))
-
 -- No reply was held back where a session ended early.
 abbrev pub HoldsNothingBack : State → Status → Option Settings → Moment → Moment → Type 0
 HoldsNothingBack start Done settings before now = Unit {0}
@@ -237,10 +227,8 @@ HoldsNothingBack start ReadFault settings before now = AnswersWholeItems start s
 HoldsNothingBack start InputTooLong settings before now = AnswersWholeItems start settings before now
 HoldsNothingBack start WriteFault settings before now = AnswersAllButOneRead start settings before now
 HoldsNothingBack start NoMemory settings before now = AnswersAllButOneRead start settings before now
-HoldsNothingBack start StoreFault settings before now =
-    AnswersAllButOneRead start settings before now × AnswersItems start settings before now
-HoldsNothingBack start (Damaged blob) settings before now =
-    AnswersAllButOneRead start settings before now × AnswersItems start settings before now
+HoldsNothingBack start StoreFault settings before now = AnswersAllButOneRead start settings before now
+HoldsNothingBack start (Damaged blob) settings before now = AnswersAllButOneRead start settings before now
 HoldsNothingBack start (Spent next) settings before now = (now.left ≡ before.left) × (now.gained ≡ before.gained)
 
 -- An input within the limit is answered, and a longer one called too long, unless there was no memory.

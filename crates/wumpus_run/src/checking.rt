@@ -7,8 +7,8 @@ ghost use Rattle.wumpus_run.specs.Checks.{check_line, FindsStore, status_of_read
 ghost use Rattle.wumpus_run.specs.Session.{IsCounted};
 
 use crate::demo::put_number;
-use crate::session::{status_of_fault, write_reply};
-use crate::statuses::Status;
+use crate::items::write_reply;
+use crate::statuses::{Status, status_of_fault};
 use std::alloc::Global;
 use wu_base::NoMemory;
 use wu_check::{Checked, check};

@@ -4,8 +4,8 @@ ghost use Rattle.wumpus_run.specs.Demo.{IsDemoLine, IsFew, IsReady, IsShown, IsT
 ghost use Rattle.wumpus_run.specs.Session.{IsCounted};
 
 use crate::answering::reply_to;
-use crate::session::{is_end, status_of_fault, write_reply};
-use crate::statuses::Status;
+use crate::items::{is_end, write_reply};
+use crate::statuses::{Status, status_of_fault};
 use crate::tallies::Tally;
 use std::alloc::Global;
 use wu_base::{FLUSH_DEFAULT, NoMemory};

@@ -4,6 +4,7 @@
 mod answering;
 mod checking;
 mod demo;
+mod items;
 mod laws;
 mod sending;
 mod session;

@@ -5,12 +5,12 @@ use Rattle.wu_script.specs.Said.{said_by}
 use Rattle.wu_engine.proofs.EarlierBlobs.{earlier_same}
 use Rattle.wu_engine.proofs.LeftImages.{still_left}
 use Rattle.wu_engine.proofs.OpenedStates.{on_any_ok}
-use Rattle.wumpus_run.proofs.CrashesUnderWay.{keeps_saves, saves_as_before}
-use Rattle.wumpus_run.proofs.DrawnBlobs.{adds_alone}
-use Rattle.wumpus_run.proofs.NamedCheckpoints.{checkpoint_same, drawn_again}
-use Rattle.wumpus_run.proofs.SessionReads.{reads_nothing}
-use Rattle.wumpus_run.proofs.SoundBlobs.{same_trouble}
-use Rattle.wumpus_run.proofs.StrayBlobs.{touches_alone}
+use Rattle.wumpus_run.proofs.Courses.CrashesUnderWay.{keeps_saves, saves_as_before}
+use Rattle.wumpus_run.proofs.Blobs.DrawnBlobs.{adds_alone}
+use Rattle.wumpus_run.proofs.Blobs.NamedCheckpoints.{checkpoint_same, drawn_again}
+use Rattle.wumpus_run.proofs.Courses.SessionReads.{reads_nothing}
+use Rattle.wumpus_run.proofs.Blobs.SoundBlobs.{same_trouble}
+use Rattle.wumpus_run.proofs.Blobs.StrayBlobs.{touches_alone}
 use Rattle.wumpus_run.proofs.UnaskedItems.{none_damaged, unfaulted}
 use Rattle.wumpus_run.proofs.answering.answer.Goals as goal
 

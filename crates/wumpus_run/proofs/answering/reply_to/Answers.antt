@@ -12,12 +12,12 @@ use Rattle.wu_engine.proofs.EarlierBlobs.{earlier_others, earlier_same}
 use Rattle.wu_engine.proofs.OpenedStates.{on_any_ok}
 use Rattle.wumpus_run.specs.Crashes.{left_to_next, saved_for}
 use Rattle.wumpus_run.specs.Raised.{IsRaised}
-use Rattle.wumpus_run.proofs.AloneStores.{alone_after_event, alone_anyway, alone_never}
-use Rattle.wumpus_run.proofs.CrashesUnderWay.{keeps_saves, saves_as_before, saves_none, saves_one}
-use Rattle.wumpus_run.proofs.NamedCheckpoints.{checkpoint_others, checkpoint_same, drawn_again, drawn_others}
-use Rattle.wumpus_run.proofs.SessionReads.{reads_nothing}
-use Rattle.wumpus_run.proofs.DrawnBlobs.{adds_alone, adds_drawn}
-use Rattle.wumpus_run.proofs.StrayBlobs.{touches_alone, touches_drawn}
+use Rattle.wumpus_run.proofs.Blobs.AloneStores.{alone_after_event, alone_anyway, alone_never}
+use Rattle.wumpus_run.proofs.Courses.CrashesUnderWay.{keeps_saves, saves_as_before, saves_none, saves_one}
+use Rattle.wumpus_run.proofs.Blobs.NamedCheckpoints.{checkpoint_others, checkpoint_same, drawn_again, drawn_others}
+use Rattle.wumpus_run.proofs.Courses.SessionReads.{reads_nothing}
+use Rattle.wumpus_run.proofs.Blobs.DrawnBlobs.{adds_alone, adds_drawn}
+use Rattle.wumpus_run.proofs.Blobs.StrayBlobs.{touches_alone, touches_drawn}
 use Rattle.wumpus_run.proofs.answering.reply_to.Goals as goal
 
 pub returns-in-Command-Update-clause-permitted : goal.returns-in-Command-Update-clause-permitted

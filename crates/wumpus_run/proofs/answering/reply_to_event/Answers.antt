@@ -4,7 +4,7 @@ use Rattle.wu_script.specs.declared.types.Reply.{Reply}
 use Rattle.wu_engine.proofs.NamedBlobs.{no_stray_after_event}
 use Rattle.wumpus_run.specs.Raised.{leaves_alone}
 use Rattle.wumpus_run.specs.Replies.{verdict_reply}
-use Rattle.wumpus_run.proofs.AloneStores.{alone_by_verdict}
+use Rattle.wumpus_run.proofs.Blobs.AloneStores.{alone_by_verdict}
 use Rattle.wumpus_run.proofs.answering.reply_to_event.Goals as goal
 
 pub returns-clause-named : goal.returns-clause-named

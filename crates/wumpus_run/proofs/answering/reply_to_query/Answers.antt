@@ -4,7 +4,7 @@ use Rattle.wu_ask.specs.Questions.{question_of}
 use Rattle.wu_ask.specs.declared.Answered.{Answered}
 use Rattle.wu_script.specs.declared.types.Reply.TheVariants as replies
 use Rattle.wu_query.proofs.DamagedTexts.{damaged_in}
-use Rattle.wumpus_run.proofs.SoundBlobs.{same_trouble, undamaged}
+use Rattle.wumpus_run.proofs.Blobs.SoundBlobs.{same_trouble, undamaged}
 use Rattle.wumpus_run.proofs.answering.reply_to_query.Goals as goal
 
 pub returns-in_err-answered-clause-damaged : goal.returns-in_err-answered-clause-damaged

@@ -1,7 +1,7 @@
-use Rattle.wumpus_run.proofs.NamedAtEnd.{none_after_save}
-use Rattle.wumpus_run.proofs.NamedCheckpoints.{drawn_saved}
-use Rattle.wumpus_run.proofs.DrawnBlobs.{adds_saved}
-use Rattle.wumpus_run.proofs.StrayBlobs.{touches_saved}
+use Rattle.wumpus_run.proofs.Blobs.NamedAtEnd.{none_after_save}
+use Rattle.wumpus_run.proofs.Blobs.NamedCheckpoints.{drawn_saved}
+use Rattle.wumpus_run.proofs.Blobs.DrawnBlobs.{adds_saved}
+use Rattle.wumpus_run.proofs.Blobs.StrayBlobs.{touches_saved}
 use Rattle.wumpus_run.proofs.answering.reply_to_save.Goals as goal
 
 pub returns-clause-named : goal.returns-clause-named

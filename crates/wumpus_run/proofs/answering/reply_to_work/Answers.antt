@@ -3,7 +3,7 @@ use Rattle.wu_base.specs.declared.Worked.{Worked}
 use Rattle.wu_base.specs.declared.troubles.Trouble.TheVariants.{Damaged}
 use Rattle.wu_script.specs.declared.types.Reply.TheVariants as replies
 use Rattle.wu_engine.proofs.NamedBlobs.{no_stray_after_work}
-use Rattle.wumpus_run.proofs.SoundBlobs.{same_trouble}
+use Rattle.wumpus_run.proofs.Blobs.SoundBlobs.{same_trouble}
 use Rattle.wumpus_run.proofs.answering.reply_to_work.Goals as goal
 
 pub returns-clause-named : goal.returns-clause-named

@@ -2,7 +2,7 @@ use Rattle.std.proofs.Common.{refl, subst}
 use Rattle.std.specs.Io.KnownBytes.{Appends}
 use Rattle.wu_outside.specs.Gains.{GainsPrefix}
 use Rattle.wumpus_run.proofs.DemoLemmas.{shown, shown_in_part, unshown}
-use Rattle.wumpus_run.proofs.FaultCounts.{IsCounted-written}
+use Rattle.wumpus_run.proofs.Endings.FaultCounts.{IsCounted-written}
 use Rattle.wumpus_run.proofs.demo.demo.Goals as goal
 
 pub returns-in-Err-clause-shown : goal.returns-in-Err-clause-shown

@@ -1,4 +1,4 @@
-use Rattle.wumpus_run.proofs.RebuiltStates.{told_the_same}
+use Rattle.wumpus_run.proofs.Exports.RebuiltStates.{told_the_same}
 use Rattle.wumpus_run.proofs.laws.a_copy_is_answered_alike.Goals as goal
 
 pub returns : goal.returns

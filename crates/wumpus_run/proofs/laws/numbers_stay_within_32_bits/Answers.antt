@@ -1,5 +1,5 @@
-use Rattle.wumpus_run.proofs.SavedNumbers.{numbers_saved}
-use Rattle.wumpus_run.proofs.ShortNumbers.{numbers_left, numbers_met}
+use Rattle.wumpus_run.proofs.Exports.SavedNumbers.{numbers_saved}
+use Rattle.wumpus_run.proofs.Exports.ShortNumbers.{numbers_left, numbers_met}
 use Rattle.wumpus_run.proofs.laws.numbers_stay_within_32_bits.Goals as goal
 
 pub returns-clause-saved : goal.returns-clause-saved

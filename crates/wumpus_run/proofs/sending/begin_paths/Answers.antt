@@ -1,5 +1,5 @@
 use Rattle.wu_engine.specs.Listing.{files_kept}
-use Rattle.wumpus_run.proofs.ListedLines.{whole_reply}
+use Rattle.wumpus_run.proofs.Exports.ListedLines.{whole_reply}
 use Rattle.wumpus_run.proofs.sending.begin_paths.Goals as goal
 
 pub returns-clause-answer : goal.returns-clause-answer

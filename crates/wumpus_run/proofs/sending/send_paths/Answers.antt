@@ -3,7 +3,7 @@ use Rattle.std.proofs.lemmas.Result.{on_err_weaker}
 use Rattle.wumpus_run.specs.Rests.{lines_of}
 use Rattle.wu_engine.specs.Listing.{files_kept}
 use Rattle.wu_engine.proofs.OpenedStates.{on_any_err}
-use Rattle.wumpus_run.proofs.SentLines.{sent_last, sent_more, sent_part}
+use Rattle.wumpus_run.proofs.Exports.SentLines.{sent_last, sent_more, sent_part}
 use Rattle.wumpus_run.proofs.sending.send_paths.Goals as goal
 
 pub returns-in_err-send_file-clause-err : goal.returns-in_err-send_file-clause-err

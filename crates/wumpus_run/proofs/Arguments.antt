@@ -1,0 +1,5 @@
+-- What the command line asks for.
+pub mod SettingLimits
+pub mod UnaskedSessions
+pub mod AskedLines
+pub mod CarriedLines
