@@ -4,8 +4,11 @@
 ghost use Rattle.std.specs.Prelude.{◌≡◌, ◌≤◌, false, map, string_bytes, IfErr, IfOk, None};
 ghost use Rattle.std.specs.Process.{exit_status};
 ghost use Rattle.wu_options.specs.CommandLines.{command_line_of, texts_of};
-ghost use Rattle.wumpus_run.specs.Ended.{IsOutcome};
-ghost use Rattle.wumpus_run.specs.Session.{IsUsage, code_of, moment, settings_of};
+ghost use Rattle.wumpus_run.specs.Checks.{ChecksStore, IfCheck};
+ghost use Rattle.wumpus_run.specs.Courses.{TakesCourse};
+ghost use Rattle.wumpus_run.specs.Demo.{IfDemo, IsShown};
+ghost use Rattle.wumpus_run.specs.Ended.{IsOutcome, KeepsBlobs};
+ghost use Rattle.wumpus_run.specs.Session.{FromImage, IsUsage, code_of, moment, settings_of};
 
 mod arguments;
 mod messages;
@@ -133,7 +136,18 @@ fn run_over<I: Source, O: Sink + Drop, D: Store + Drop>(
 ) -> Ran<O, D>
     requires { I.ended source.old ≡ false }
     ensures usage { IsUsage result.status (command_line_of (texts_of words.now)) }
+    ensures demo { IfDemo (command_line_of (texts_of words.now))
+        (λ number. IsShown number result.status (O.gained sink) (O.gained result.sink)) }
+    ensures check { IfCheck (command_line_of (texts_of words.now)) (ChecksStore result.status
+        (moment I.Source O.Sink D.Store source.old sink store)
+        (moment I.Source O.Sink D.Store source.new result.sink result.store)) }
     ensures session { IsOutcome result.status (settings_of (texts_of words.now))
+        (moment I.Source O.Sink D.Store source.old sink store)
+        (moment I.Source O.Sink D.Store source.new result.sink result.store) }
+    ensures course { FromImage (D.holds store) (λ s. TakesCourse s result.status (settings_of (texts_of words.now))
+        (moment I.Source O.Sink D.Store source.old sink store)
+        (moment I.Source O.Sink D.Store source.new result.sink result.store)) }
+    ensures blobs { KeepsBlobs
         (moment I.Source O.Sink D.Store source.old sink store)
         (moment I.Source O.Sink D.Store source.new result.sink result.store) }
 {
@@ -159,7 +173,18 @@ fn run_watched<I: Source, O: Sink + Drop, D: Store + Drop>(
 ) -> Ran<O, D>
     requires { I.ended source.old ≡ false }
     ensures usage { IsUsage result.status (command_line_of (texts_of words.now)) }
+    ensures demo { IfDemo (command_line_of (texts_of words.now))
+        (λ number. IsShown number result.status (O.gained sink) (O.gained result.sink)) }
+    ensures check { IfCheck (command_line_of (texts_of words.now)) (ChecksStore result.status
+        (moment I.Source O.Sink D.Store source.old sink store)
+        (moment I.Source O.Sink D.Store source.new result.sink result.store)) }
     ensures session { IsOutcome result.status (settings_of (texts_of words.now))
+        (moment I.Source O.Sink D.Store source.old sink store)
+        (moment I.Source O.Sink D.Store source.new result.sink result.store) }
+    ensures course { FromImage (D.holds store) (λ s. TakesCourse s result.status (settings_of (texts_of words.now))
+        (moment I.Source O.Sink D.Store source.old sink store)
+        (moment I.Source O.Sink D.Store source.new result.sink result.store)) }
+    ensures blobs { KeepsBlobs
         (moment I.Source O.Sink D.Store source.old sink store)
         (moment I.Source O.Sink D.Store source.new result.sink result.store) }
 {
