@@ -2,6 +2,7 @@ pub mod TurnLemmas
 pub mod Noninterference
 pub mod LivesAsSessions
 pub mod RunTurns
+pub mod RestartedRuns
 pub mod ViewsAlike
 pub mod UnseenEvents
 pub mod UnseenCases

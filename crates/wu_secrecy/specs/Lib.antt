@@ -5,6 +5,7 @@ pub mod Answers
 -- sessions, histories, and what `run` answered
 pub mod Histories
 pub mod Lives
+pub mod Restarted
 -- what can't change her view
 pub mod Unseen
 pub mod UnseenItems

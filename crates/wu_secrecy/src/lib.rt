@@ -16,5 +16,5 @@ pub use laws::{
     a_reply_is_over_her_view, a_session_tells_her_alike, turns_are_the_output,
     two_histories_that_she_cannot_tell_apart, two_machines_tell_her_alike,
 };
-pub use lives::a_life_is_a_history;
+pub use lives::{a_life_is_a_history, a_restart_changes_no_reply};
 pub use runs::{run_in_turns, two_runs_tell_her_alike};

@@ -1,10 +1,13 @@
 //! The law of lives.
-ghost use Rattle.std.specs.Prelude.{ℕ, List};
+ghost use Rattle.std.specs.Prelude.{◌≡◌, ◌⊎◌, ℕ, List};
 ghost use Rattle.wu_query.specs.States.{State};
 ghost use Rattle.wu_engine.specs.Opening.{HoldsImage};
 ghost use Rattle.wu_script.specs.Said.{IsReading, Reading};
 ghost use Rattle.wu_secrecy.specs.Histories.{TellAlike, turns_in};
-ghost use Rattle.wu_secrecy.specs.Lives.{History, IsLife, IsRun, Run, Started, SurvivesStop};
+ghost use Rattle.wu_secrecy.specs.Lives.{GoesOn, History, IsLife, IsRun, Restarts, Run};
+ghost use Rattle.wu_secrecy.specs.Lives.{Started, SurvivesStop};
+ghost use Rattle.wu_secrecy.specs.Restarted.{IsAsIfGoneOn};
+ghost use Rattle.wumpus_run.specs.declared.statuses.Status.TheVariants.{Done};
 
 /// The life of a machine is a history of sessions, of which
 /// [`two_machines_tell_her_alike`](crate::two_machines_tell_her_alike) speaks. Where each run over
@@ -22,4 +25,16 @@ pub fn a_life_is_a_history()
     ensures stop { (read : Reading) → IsReading read → (first : State) (earlier : List Started)
         (run : Run) (s : State) → IsRun run → HoldsImage run.before.holds s
         → SurvivesStop read first earlier (run, s) }
+{}
+
+/// A restart changes no reply. After a run that was done, the next one, over what that left or what
+/// a crash then left, answers its input as if the run before had gone on with it: each query of a
+/// user meets the view that she would have had then, and its reply is the same bytes; and so is the
+/// view that she has in the end. After a run that ended otherwise, it goes on from its last save, of
+/// which [`a_life_is_a_history`] speaks.
+pub fn a_restart_changes_no_reply()
+    ensures { (read : Reading) → IsReading read → (run next : Run) (s t : State) → IsRun run
+        → run.status ≡ Done → HoldsImage run.before.holds s
+        → GoesOn run next ⊎ Restarts run next → HoldsImage next.before.holds t
+        → (uid : ℕ) → IsAsIfGoneOn read run s next t uid }
 {}
