@@ -1,4 +1,5 @@
 //! The store in a folder of the disk.
+use crate::synced_files::answers_with_syncs;
 use std::alloc::Global;
 use std::fs::{OpenOptions, Permissions};
 use std::os::unix::fs::{PermissionsExt, symlink};
@@ -23,6 +24,7 @@ where
         "StdOut" => first_write(files, arguments),
         "DirStore" => answers(files, arguments),
         "DirStore::last_failure" => failure_in(files, arguments),
+        "DirStore synced" => answers_with_syncs(files, arguments),
         "DirStore twice" => answers_of_two(files, arguments),
         "fs::mode" => mode_of(files, arguments),
         "fs::read" => content_of(files, arguments),

@@ -4,6 +4,7 @@
 
 mod failing_files;
 mod folders;
+mod synced_files;
 
 use std::io;
 use wu_rows::compare;
