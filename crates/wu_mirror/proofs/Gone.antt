@@ -1,24 +1,23 @@
 -- Once each event of the removal was accepted, the names that go are gone.
-use Rattle.std.proofs.Common.{◌≡◌, ◌≢◌, ℕ, ◌<◌, ◌≤◌, ◌^◌, List, [], ◌∷◌, ◌++◌, length, refl, ap, sym, ◌∙◌, subst, Bool, true, false, cond, inl, inr, ⊎_elim}
+use Rattle.std.proofs.Common.{◌≡◌, ◌≢◌, ℕ, ◌<◌, ◌≤◌, ◌^◌, List, [], ◌∷◌, ◌++◌, length, refl, ap, sym, ◌∙◌, subst, Bool, true, false, inl, inr, ⊎_elim}
 use Rattle.std.proofs.Common.{append_assoc, arith}
 use Rattle.std.proofs.lemmas.List.{append-nil}
 use Rattle.std.specs.Prelude.{◌⊎◌, Option, None, Some, is_some, map, decimal, reverse}
-use Rattle.std.specs.List.{AllByRecursion, flat_map}
+use Rattle.std.specs.List.{flat_map}
 use Rattle.std.specs.Map.{lookup, remove_entry}
 use Rattle.std.specs.BTreeMap.{is_at}
 use Rattle.wu_access.specs.Access.{IsDecidedByCases}
 use Rattle.wu_tree.specs.declared.events.Event.{Event}
 use Rattle.wu_tree.specs.declared.events.Kind.{Kind}
 use Rattle.wu_tree.specs.declared.events.Kind.TheVariants.{Directory, File}
-use Rattle.wu_tree.specs.declared.events.Node.{Node}
-use Rattle.wu_tree.specs.FileSystems.{FileSystem, Link, place_cmp, child_of, is_there, is_used, node_of}
+use Rattle.wu_tree.specs.FileSystems.{FileSystem, Link, place_cmp, child_of, is_there, is_used}
 use Rattle.wu_tree.specs.Rules.{IsTree}
 use Rattle.wu_tree.specs.Steps.{IsEvent, next, refusal_of, rename_rules, renamed, with_link_moved, without_link}
 use Rattle.wu_tree.proofs.EventRules.{none_applies, not_false, present}
 use Rattle.wu_tree.proofs.Renames.{renamed_free}
 use Rattle.wu_view.proofs.LinkPaths.{link_facts}
 use mathlib.Core.List.{reverse-cons}
-use Rattle.wu_base.proofs.Members.{Has, Has-append_left, Has-append_right, all_has}
+use Rattle.wu_base.proofs.Members.{Has, Contains-from_Has, Has-append_left, Has-append_right, all_has}
 use Rattle.wu_mirror.specs.declared.batches.Batch.{Batch}
 use Rattle.wu_mirror.specs.declared.batches.Change.{Change}
 use Rattle.wu_mirror.specs.declared.batches.Fate.{Fate}
@@ -27,7 +26,7 @@ use Rattle.wu_mirror.specs.declared.batches.Place.{Place}
 use Rattle.wu_mirror.specs.declared.batches.RightsChange.{RightsChange}
 use Rattle.wu_mirror.specs.Plans.{directory_removed, directory_set_aside, file_names_gone, first_and_others, first_gone, moved_from, removed, removed_from}
 use Rattle.wu_mirror.specs.Plans.{removed_in, set_aside, taken_in, unlinked}
-use Rattle.wu_mirror.specs.Moments.{AreApart, AtEach, HasFate, IsMade, IsName, IsTrueOf, LeadsTo}
+use Rattle.wu_mirror.specs.Moments.{AreApart, AtEach, GoesFrom, HasFate, IsName, IsTrueOf, LeadsTo}
 use Rattle.wu_mirror.proofs.Lookups.{put_in, same_some, taken_itself, taken_out}
 use Rattle.wu_mirror.proofs.Parts.{tree_kept}
 use Rattle.wu_mirror.proofs.Taking.{Shows, one_change, truth}
@@ -35,11 +34,11 @@ use Rattle.wu_mirror.proofs.ViewGrowth.{link_found}
 use Rattle.wu_mirror.proofs.Removing.{Held, decimals_apart, has-reverse, held_shows, link_gone, put_aside, up_to_the_groups}
 use Rattle.wu_mirror.proofs.Coming.{NamesGone}
 
-none_if : (o : Option ℕ) → ((x : ℕ) → o ≡ Some x → ⊥) → o ≡ None
+pub none_if : (o : Option ℕ) → ((x : ℕ) → o ≡ Some x → ⊥) → o ≡ None
 none_if None f = refl
 none_if (Some x) f = absurd (f x refl)
 
-never : (o : Option ℕ) (x : ℕ) → o ≡ None → o ≡ Some x → ⊥
+pub never : (o : Option ℕ) (x : ℕ) → o ≡ None → o ≡ Some x → ⊥
 never o x n s = cc
 
 module _ (law : IsDecidedByCases) (batch : Batch) (before after : FileSystem) (l : LeadsTo batch before after) (uid : ℕ) (u : uid ≢ 0)
@@ -55,6 +54,9 @@ module _ (law : IsDecidedByCases) (batch : Batch) (before after : FileSystem) (l
 
   is_name : (c : Change) → Has c batch.changes → (place : Place) → Has place c.going → IsName before c.ino place
   is_name c h place p = all_has (IsName before c.ino) place c.going (true_of c h).going p
+
+  goes_from : (c : Change) → Has c batch.changes → (place : Place) → Has place c.going → GoesFrom batch.changes place.parent place.name
+  goes_from c h place p = (c, place, Contains-from_Has c batch.changes h, Contains-from_Has place c.going p, refl, refl)
 
   -- no name comes but in the closed directory
   abbrev Shrinks : FileSystem → FileSystem → Type 0
@@ -85,10 +87,11 @@ module _ (law : IsDecidedByCases) (batch : Batch) (before after : FileSystem) (l
     pub gone : (place : Place) → Has place places → IsGone to place
     pub free : (k : ℕ) → k < 2 ^ 32 → k ≢ ino → IsFree m k → IsFree to k
 
-  link_out : (m : FileSystem) (place : Place) (ino : ℕ) → Keeps m → IsTree (without_link m place.parent place.name)
+  link_out : (m : FileSystem) (place : Place) (ino : ℕ) → GoesFrom batch.changes place.parent place.name → Keeps m
+      → IsTree (without_link m place.parent place.name)
       → Out m (without_link m place.parent place.name) ino (place ∷ [])
-  link_out m place ino h tree = record {
-    held = link_gone law batch before after l uid u End m place.parent place.name h tree;
+  link_out m place ino goes h tree = record {
+    held = link_gone law batch before after l uid u End m place.parent place.name goes h tree;
     shrinks = λ d n x a g. taken_out m.links place.parent place.name h.tree.links_ascend d n x g;
     gone = λ p i. ⊎_elim
         (λ e. subst (λ (q : Place). IsGone (without_link m place.parent place.name) q) e
@@ -113,7 +116,7 @@ module _ (law : IsDecidedByCases) (batch : Batch) (before after : FileSystem) (l
       let same : to ≡ renamed m place.parent place.name 2 (decimal c.ino) =
       renamed_free m place.parent place.name 2 (decimal c.ino) c.ino found free in
       let left : List Link = remove_entry (is_at (place_cmp (place.parent, place.name))) m.links in
-      let kept : Keeps to = subst Keeps (sym same) (put_aside law batch before after l uid u End m c h place is held v ok) in
+      let kept : Keeps to = subst Keeps (sym same) (put_aside law batch before after l uid u End m c h place is (goes_from c h place p) held v ok) in
       subst (λ (fs : FileSystem). Out m fs c.ino (place ∷ [])) same
       (record {
         held = kept;
@@ -160,7 +163,7 @@ module _ (law : IsDecidedByCases) (batch : Batch) (before after : FileSystem) (l
   all_unlinked c h (place ∷ places) sub m rest held k = (
     held_shows law batch before after l uid u End m held,
     λ v ok.
-        let one = link_out m place c.ino held (tree_kept m held.tree (unlinked place) v ok) in
+        let one = link_out m place c.ino (goes_from c h place (sub place (inl refl))) held (tree_kept m held.tree (unlinked place) v ok) in
         all_unlinked c h places (λ p i. sub p (inr i)) (without_link m place.parent place.name) rest one.held
         (λ to others. k to (out_then m (without_link m place.parent place.name) to c h place places sub one others)),
   )
@@ -173,7 +176,7 @@ module _ (law : IsDecidedByCases) (batch : Batch) (before after : FileSystem) (l
   all_removed c h (place ∷ places) sub m rest held k = (
     held_shows law batch before after l uid u End m held,
     λ v ok.
-        let one = link_out m place c.ino held (tree_kept m held.tree (removed place) v ok) in
+        let one = link_out m place c.ino (goes_from c h place (sub place (inl refl))) held (tree_kept m held.tree (removed place) v ok) in
         all_removed c h places (λ p i. sub p (inr i)) (without_link m place.parent place.name) rest one.held
         (λ to others. k to (out_then m (without_link m place.parent place.name) to c h place places sub one others)),
   )
@@ -182,10 +185,10 @@ module _ (law : IsDecidedByCases) (batch : Batch) (before after : FileSystem) (l
       → IsEvent (first_gone c.ino fate place)
       → refusal_of m (first_gone c.ino fate place) ≡ None
       → Out m (next m (first_gone c.ino fate place)) c.ino (place ∷ [])
-  first_out c h (Stays rights true) place p m held free v ok = link_out m place c.ino held (tree_kept m held.tree (unlinked place) v ok)
+  first_out c h (Stays rights true) place p m held free v ok = link_out m place c.ino (goes_from c h place p) held (tree_kept m held.tree (unlinked place) v ok)
   first_out c h (Stays rights false) place p m held free v ok = aside_out m c h place p held free v ok
-  first_out c h (Made perm acl) place p m held free v ok = link_out m place c.ino held (tree_kept m held.tree (unlinked place) v ok)
-  first_out c h Goes place p m held free v ok = link_out m place c.ino held (tree_kept m held.tree (unlinked place) v ok)
+  first_out c h (Made perm acl) place p m held free v ok = link_out m place c.ino (goes_from c h place p) held (tree_kept m held.tree (unlinked place) v ok)
+  first_out c h Goes place p m held free v ok = link_out m place c.ino (goes_from c h place p) held (tree_kept m held.tree (unlinked place) v ok)
 
   file_out : (c : Change) (h : Has c batch.changes) (places : List Place) → ((p : Place) → Has p places → Has p c.going) → (m : FileSystem)
       (rest : List Event) → Keeps m → IsFree m c.ino

@@ -1,11 +1,9 @@
 -- What look-ups find after an event.
-use Rattle.std.proofs.Common.{◌≡◌, ◌≢◌, ℕ, List, [], ◌∷◌, refl, ap, sym, ◌∙◌, subst, Bool, true, false, cond, not, inl, inr, ⊎_elim}
-use Rattle.std.specs.Prelude.{◌⊎◌, ◌&&◌, ◌||◌, ◌==◌, Option, None, Some, IsSome, is_some}
+use Rattle.std.proofs.Common.{◌≡◌, ◌≢◌, ℕ, List, refl, ap, sym, ◌∙◌, subst, Bool, true, false, cond, inl, inr}
+use Rattle.std.specs.Prelude.{◌⊎◌, Option, None, Some, IsSome, is_some}
 use Rattle.std.specs.declared.cmp.Ordering.{Ordering}
-use Rattle.std.specs.declared.cmp.Ordering.TheVariants.{Equal}
 use Rattle.std.specs.Ordering.{is_eq, nat_cmp}
 use Rattle.std.specs.Cmp.{IsTotalOrder, nat_cmp_total, eq_by_cmp_equiv}
-use Rattle.std.specs.List.{AllByRecursion}
 use Rattle.std.specs.List.Sorted.{IsStrictlySortedBy}
 use Rattle.std.specs.Map.{keys_of, lookup, remove_entry, set_value}
 use Rattle.std.specs.BTreeMap.{is_at, insert_entry}
@@ -15,9 +13,9 @@ use Rattle.std.proofs.lemmas.Map.Lookups.{exact_unsigned, CmpEqualImpliesEq}
 use Rattle.wu_access.specs.declared.acls.Acl.{Acl}
 use Rattle.wu_access.specs.declared.Perm.{Perm}
 use Rattle.wu_tree.specs.declared.events.Node.{Node}
-use Rattle.wu_tree.specs.FileSystems.{FileSystem, Link, Place, place_cmp, acl_of, node_of, child_of, is_there}
+use Rattle.wu_tree.specs.FileSystems.{FileSystem, Link, Place, place_cmp, acl_of, node_of, is_there}
 use Rattle.wu_tree.specs.Rules.{IsTree, IsAclOf}
-use Rattle.wu_tree.specs.Steps.{with_perm, with_node, with_link, with_acl, without_acl, with_mask, without_link, with_link_moved, named_by, is_last_link}
+use Rattle.wu_tree.specs.Steps.{with_perm, with_acl, without_acl, with_mask, without_link, named_by, is_last_link}
 use Rattle.wu_tree.proofs.ParentPaths.{place_total, place_exact, same_number, other_number}
 use Rattle.wu_base.proofs.MapEntries.{is_equal, lookup-insert_entry, number_itself, All-found}
 
@@ -151,6 +149,33 @@ module _ (links : List Link) (parent : ℕ) (name : List ℕ) where
       by_test (is_eq (place_cmp (parent, name) (d, n))) (λ b. cond b None (child_in links d n) ≡ Some x → child_in links d n ≡ Some x)
       (λ p g. absurd cc) (λ p g. g)
       (sym (after_removal place_total place_exact (parent, name) (d, n) links s) ∙ h)
+
+  -- another name stays
+  pub still_in : IsStrictlySortedBy place_cmp (keys_of links) → (d : ℕ) (n : List ℕ) (x : ℕ) → (d ≡ parent → n ≡ name → ⊥)
+      → child_in links d n ≡ Some x → child_in (remove_entry (is_at (place_cmp (parent, name))) links) d n ≡ Some x
+  still_in s d n x apart h =
+      after_removal place_total place_exact (parent, name) (d, n) links s
+      ∙ by_test (is_eq (place_cmp (parent, name) (d, n))) (λ b. cond b None (child_in links d n) ≡ Some x)
+      (λ p.
+      let e : (parent, name) ≡ (d, n) = place_exact (parent, name) (d, n) (is_equal _ p) in
+      absurd (apart (ap (λ (k : Place). k.0) (sym e)) (ap (λ (k : Place). k.1) (sym e))))
+      (λ p. h)
+
+  -- a name stays where a link is put in, unless it names something else
+  pub put_keeps : (child d : ℕ) (n : List ℕ) (x : ℕ) → (d ≡ parent → n ≡ name → x ≡ child) → child_in links d n ≡ Some x
+      → child_in (linked_to child) d n ≡ Some x
+  put_keeps child d n x same h =
+      lookup-insert_entry place_total links (parent, name) child (d, n)
+      ∙ by_test (is_eq (place_cmp (d, n) (parent, name))) (λ b. cond b (Some child) (child_in links d n) ≡ Some x)
+      (λ p.
+      let e : (d, n) ≡ (parent, name) = place_exact (d, n) (parent, name) (is_equal _ p) in
+      ap Some (sym (same (ap (λ (k : Place). k.0) e) (ap (λ (k : Place). k.1) e))))
+      (λ p. h)
+
+  pub put_itself : (child : ℕ) → child_in (linked_to child) parent name ≡ Some child
+  put_itself child =
+      lookup-insert_entry place_total links (parent, name) child (parent, name)
+      ∙ ap (λ b. cond b (Some child) (child_in links parent name)) ((eq_by_cmp_equiv place_total).refl (parent, name))
 
   pub taken_itself : IsStrictlySortedBy place_cmp (keys_of links)
       → child_in (remove_entry (is_at (place_cmp (parent, name))) links) parent name ≡ None

@@ -1,47 +1,39 @@
 -- Groups are set, and names are removed: nobody finds more than before.
-use Rattle.std.proofs.Common.{◌≡◌, ◌≢◌, ℕ, ◌<◌, ◌^◌, List, [], ◌∷◌, ◌++◌, refl, ap, sym, ◌∙◌, subst, Bool, true, false, cond, not, inl, inr, ⊎_elim}
-use Rattle.std.proofs.Common.{append_assoc, arith, lit<}
-use Rattle.std.specs.Prelude.{◌⊎◌, ◌&&◌, ◌||◌, ◌==◌, Option, None, Some, is_some, map, decimal, reverse}
+use Rattle.std.proofs.Common.{◌≡◌, ◌≢◌, ℕ, ◌<◌, ◌^◌, List, [], ◌∷◌, ◌++◌, refl, ap, sym, ◌∙◌, subst, Bool, true, false, not, inl, inr, ⊎_elim}
+use Rattle.std.proofs.Common.{append_assoc, arith}
+use Rattle.std.specs.Prelude.{◌⊎◌, ◌&&◌, ◌||◌, ◌==◌, None, Some, map, decimal, reverse}
 use Rattle.std.specs.Ordering.{nat_cmp}
-use Rattle.std.specs.List.{AllByRecursion, flat_map, list_any}
+use Rattle.std.specs.List.{flat_map}
 use Rattle.std.specs.Map.{lookup, remove_entry}
 use Rattle.std.specs.BTreeMap.{is_at, insert_entry}
 use Rattle.std.specs.Str.Parse.{digits_value}
 use Rattle.std.proofs.lemmas.Fmt.{decimal_is_IsNumeral}
-use Rattle.std.proofs.lemmas.Bool.{or_parts}
 use mathlib.Core.List.{reverse-cons}
-use borrow.Author.Tests.{eqb-true, eqb-false, eq-eqb}
+use borrow.Author.Tests.{eqb-true, eq-eqb}
 use Rattle.wu_base.specs.SortedOnce.{sorted_once}
 use Rattle.wu_access.specs.declared.acls.Acl.{Acl}
-use Rattle.wu_access.specs.declared.Perm.{Perm}
 use Rattle.wu_access.specs.declared.UserRec.{UserRec}
 use Rattle.wu_access.specs.Access.{IsDecidedByCases}
 use Rattle.wu_tree.specs.declared.events.Event.{Event}
-use Rattle.wu_tree.specs.declared.events.Event.TheVariants.{User, Unlink, Rmdir, Rename}
-use Rattle.wu_tree.specs.declared.events.Kind.{Kind}
-use Rattle.wu_tree.specs.declared.events.Kind.TheVariants.{Directory, File}
+use Rattle.wu_tree.specs.declared.events.Event.TheVariants.{User}
 use Rattle.wu_tree.specs.declared.events.Node.{Node}
 use Rattle.wu_tree.specs.FileSystems.{FileSystem, Link, place_cmp, acl_of, node_of, child_of, is_directory_node, is_used}
 use Rattle.wu_tree.specs.Rules.{IsTree}
-use Rattle.wu_tree.specs.Steps.{IsEvent, named, named_by, next, refusal_of, rename_rules, renamed, with_link_moved, with_user, without_link}
-use Rattle.wu_tree.specs.Steps.{is_link_to}
+use Rattle.wu_tree.specs.Steps.{IsEvent, next, refusal_of, rename_rules, renamed, with_link_moved, with_user, without_link}
 use Rattle.wu_tree.proofs.EventRules.{none_applies, not_false, present}
 use Rattle.wu_tree.proofs.Renames.{renamed_free}
-use Rattle.wu_base.proofs.Members.{Has, Has-append_cases, all_has, any_has}
+use Rattle.wu_base.proofs.Members.{Has, Has-append_cases, any_has}
 use Rattle.wu_mirror.specs.declared.batches.Batch.{Batch}
 use Rattle.wu_mirror.specs.declared.batches.Change.{Change}
-use Rattle.wu_mirror.specs.declared.batches.Fate.{Fate}
 use Rattle.wu_mirror.specs.declared.batches.Fate.TheVariants.{Stays, Made, Goes}
 use Rattle.wu_mirror.specs.declared.batches.Place.{Place}
-use Rattle.wu_mirror.specs.declared.batches.RightsChange.{RightsChange}
-use Rattle.wu_mirror.specs.Plans.{directory_removed, directory_set_aside, file_names_gone, first_and_others, first_gone, groups_change, groups_set}
-use Rattle.wu_mirror.specs.Plans.{is_empty, left_mode, moved_from, removed, removed_from, removed_in, set_aside, taken, taken_in, unlinked}
-use Rattle.wu_mirror.specs.Moments.{AtEach, HasFate, IsKept, IsName, IsTrueOf, LeadsTo, is_told, node_with, with_groups}
-use Rattle.wu_mirror.proofs.RightsLess.{moded}
-use Rattle.wu_mirror.proofs.Lookups.{KeepsNodes, link_removed, put_in, taken_out, same_some}
-use Rattle.wu_mirror.proofs.Parts.{RootShut, node_there, shows_before, shows_none, tree_kept}
+use Rattle.wu_mirror.specs.Plans.{groups_change, groups_set}
+use Rattle.wu_mirror.specs.Plans.{is_empty, left_mode, set_aside, taken, taken_in}
+use Rattle.wu_mirror.specs.Moments.{AtEach, GoesFrom, HasFate, IsName, IsTrueOf, LeadsTo, is_told, with_groups}
+use Rattle.wu_mirror.proofs.Lookups.{KeepsNodes, link_removed, put_in, put_keeps, still_in, taken_out, same_some}
+use Rattle.wu_mirror.proofs.Parts.{RootShut, shows_before, shows_none, tree_kept}
 use Rattle.wu_mirror.proofs.TakingRights.{LeftBy}
-use Rattle.wu_mirror.proofs.Taking.{IsLeft, NodesHeld, Shows, Taking, at_first, held_below, shut, take_all, taking_shows, truth}
+use Rattle.wu_mirror.proofs.Taking.{IsLeft, NodesHeld, Shows, Taking, at_first, held_below, shut, take_all, truth}
 
 -- ---- numbers as names
 pub decimals_apart : (a b : ℕ) → a < 2 ^ 32 → b < 2 ^ 32 → decimal a ≡ decimal b → a ≡ b
@@ -71,6 +63,7 @@ module _ (law : IsDecidedByCases) (batch : Batch) (before after : FileSystem) (l
   pub record Held (m : FileSystem) : Type 0 where
     pub tree : IsTree m
     pub names : (d : ℕ) (n : List ℕ) (x : ℕ) → d ≢ 2 → child_of m d n ≡ Some x → child_of before d n ≡ Some x
+    pub stays : (d : ℕ) (n : List ℕ) (x : ℕ) → d ≢ 2 → child_of before d n ≡ Some x → (GoesFrom batch.changes d n → ⊥) → child_of m d n ≡ Some x
     pub aside : (k x : ℕ) → k < 2 ^ 32 → child_of m 2 (decimal k) ≡ Some x → x ≡ k
     pub nodes : NodesHeld law batch before after l uid u End m
     pub done : (c : Change) → Has c batch.changes → (node : Node) → node_of m c.ino ≡ Some node → Left c node
@@ -119,6 +112,7 @@ module _ (law : IsDecidedByCases) (batch : Batch) (before after : FileSystem) (l
       record {
         tree = tree;
         names = λ d n x a h. sym (at d n) ∙ h;
+        stays = λ d n x a h g. at d n ∙ h;
         aside = λ k x small h. absurd (let a : None ≡ Some x = sym (l.no_number k) ∙ sym (at 2 (decimal k)) ∙ h in cc);
         nodes = record {
           rights = λ q node h. t.held.rights q node (sym (node_at q) ∙ h);
@@ -156,13 +150,19 @@ module _ (law : IsDecidedByCases) (batch : Batch) (before after : FileSystem) (l
       (l.groups ∙ ap (λ (us : List UserRec). (with_groups before us).users) e) k
 
   -- ---- names
+  gone_at : (parent : ℕ) (name : List ℕ) (d : ℕ) (n : List ℕ) → GoesFrom batch.changes parent name → d ≡ parent → n ≡ name
+      → GoesFrom batch.changes d n
+  gone_at parent name d n g e w = (g.0, g.1, g.2, g.3, g.4 ∙ sym e, g.5 ∙ sym w)
+
   held_after : (m to : FileSystem) → Held m → KeepsNodes m to → IsTree to
       → ((d : ℕ) (n : List ℕ) (x : ℕ) → d ≢ 2 → child_of to d n ≡ Some x → child_of m d n ≡ Some x)
+      → ((d : ℕ) (n : List ℕ) (x : ℕ) → d ≢ 2 → child_of m d n ≡ Some x → (GoesFrom batch.changes d n → ⊥) → child_of to d n ≡ Some x)
       → ((k x : ℕ) → k < 2 ^ 32 → child_of to 2 (decimal k) ≡ Some x → x ≡ k)
       → Held to
-  held_after m to h s tree names aside = record {
+  held_after m to h s tree names stays aside = record {
     tree = tree;
     names = λ d n x a g. h.names d n x a (names d n x a g);
+    stays = λ d n x a f g. stays d n x a (h.stays d n x a f g) g;
     aside = aside;
     nodes = record {
       rights = λ q node g. h.nodes.rights q node (s.nodes q node g).0;
@@ -173,18 +173,21 @@ module _ (law : IsDecidedByCases) (batch : Batch) (before after : FileSystem) (l
     shown = ⊎_elim (λ e. inl (s.users ∙ e)) (λ r. inr (λ node g. r node (s.nodes 1 node g).0)) h.shown;
   }
 
-  pub link_gone : (m : FileSystem) (parent : ℕ) (name : List ℕ) → Held m → IsTree (without_link m parent name) → Held (without_link m parent name)
-  link_gone m parent name h tree =
+  pub link_gone : (m : FileSystem) (parent : ℕ) (name : List ℕ) → GoesFrom batch.changes parent name → Held m
+      → IsTree (without_link m parent name) → Held (without_link m parent name)
+  link_gone m parent name goes h tree =
       held_after m (without_link m parent name) h (link_removed m h.tree parent name) tree
       (λ d n x a g. taken_out m.links parent name h.tree.links_ascend d n x g)
+      (λ d n x a f g. still_in m.links parent name h.tree.links_ascend d n x (λ e w. g (gone_at parent name d n goes e w)) f)
       (λ k x small g. h.aside k x small (taken_out m.links parent name h.tree.links_ascend 2 (decimal k) x g))
 
   -- a name of the node moved to the closed directory
-  pub put_aside : (m : FileSystem) (c : Change) (h : Has c batch.changes) (place : Place) → IsName before c.ino place → Held m
+  pub put_aside : (m : FileSystem) (c : Change) (h : Has c batch.changes) (place : Place) → IsName before c.ino place
+      → GoesFrom batch.changes place.parent place.name → Held m
       → IsEvent (set_aside c.ino place)
       → refusal_of m (set_aside c.ino place) ≡ None
       → Held (next m (set_aside c.ino place))
-  put_aside m c h place is held v ok =
+  put_aside m c h place is goes held v ok =
       let small : c.ino < 2 ^ 32 = (truth law batch before after l uid u End c h).number in
       let a = none_applies (rename_rules m place.parent place.name 2 (decimal c.ino)) ok in
       let f = present (child_of m place.parent place.name) (not_false (is_used m place.parent place.name) a.1.1.1.0) in
@@ -202,6 +205,10 @@ module _ (law : IsDecidedByCases) (batch : Batch) (before after : FileSystem) (l
             (held_after m to held (record { users = refl; nodes = λ q node g. (g, refl) }) (subst IsTree (sym same) tree)
             (λ d n x apart g. ⊎_elim (λ p. absurd (apart p.0)) (λ q. taken_out m.links place.parent place.name held.tree.links_ascend d n x q)
             (put_in left 2 (decimal c.ino) c.ino d n x g))
+            (λ d n x apart f g.
+            put_keeps left 2 (decimal c.ino) c.ino d n x (λ e w. absurd (apart e))
+            (still_in m.links place.parent place.name held.tree.links_ascend d n x
+            (λ e w. g (gone_at place.parent place.name d n goes e w)) f))
             (λ k x low g. ⊎_elim
             (λ p. p.2 ∙ sym (decimals_apart k c.ino low small p.1))
             (λ q. held.aside k x low (taken_out m.links place.parent place.name held.tree.links_ascend 2 (decimal k) x q))

@@ -1,6 +1,6 @@
 -- A view grows with names and rights.
 use Rattle.std.proofs.Common.{◌≡◌, ℕ, List, [], ◌∷◌, refl, ap, sym, ◌∙◌, subst, Bool, true, false, not}
-use Rattle.std.specs.Prelude.{◌&&◌, Option, None, Some, is_some}
+use Rattle.std.specs.Prelude.{Option, None, Some, is_some}
 use Rattle.std.specs.List.{Contains}
 use Rattle.std.proofs.lemmas.Bool.{and_parts}
 use Rattle.std.proofs.lemmas.Cmp.{nat_list_cmp_total}
@@ -10,11 +10,11 @@ use Rattle.wu_access.specs.declared.UserRec.{UserRec}
 use Rattle.wu_access.specs.declared.Want.TheVariants.{Read, Execute}
 use Rattle.wu_access.specs.Access.{IsDecidedByCases}
 use Rattle.wu_tree.specs.declared.events.Node.{Node}
-use Rattle.wu_tree.specs.FileSystems.{FileSystem, Link, child_of, is_directory, is_directory_node, is_file, is_file_node, is_there, node_of, acl_of, groups_of}
+use Rattle.wu_tree.specs.FileSystems.{FileSystem, child_of, is_directory_node, is_file, is_file_node, is_there, node_of, acl_of, groups_of}
 use Rattle.wu_tree.specs.Rules.{IsTree}
 use Rattle.wu_tree.proofs.ParentPaths.{place_exact}
 use Rattle.wu_view.specs.declared.Seen.{Seen}
-use Rattle.wu_view.specs.Views.{may, is_readable, is_granted_node, GrantsNode, Leads, IsPath, IsOpenWay, IsOpenPath, joined, open_paths}
+use Rattle.wu_view.specs.Views.{may, is_readable, is_granted_node, GrantsNode, Leads, IsPath, IsOpenWay, IsOpenPath, open_paths}
 use Rattle.wu_view.specs.Views.{seen_as, user_with, view_for, view_of}
 use Rattle.wu_base.proofs.Members.{Has, Has-from_Contains, Contains-from_Has}
 use Rattle.wu_base.proofs.SortedLists.{has-sorted_once, sorted_once_has}
@@ -38,7 +38,7 @@ pub link_found : (fs : FileSystem) (directory : ℕ) (name : List ℕ) (child : 
 link_found fs directory name child h =
     Has-from_Contains ((directory, name), child) fs.links (Contains-from_lookup (tells_apart place_exact) (directory, name) child fs.links h)
 
-directory_there : (o : Option Node) → is_directory_node o ≡ true → is_some o ≡ true
+pub directory_there : (o : Option Node) → is_directory_node o ≡ true → is_some o ≡ true
 directory_there None h = absurd cc
 directory_there (Some node) h = refl
 

@@ -9,7 +9,7 @@ use Rattle.wu_tree.specs.declared.events.Event.TheVariants.{Text}
 use Rattle.wu_tree.specs.declared.events.Kind.{Kind}
 use Rattle.wu_tree.specs.declared.events.Kind.TheVariants.{Directory}
 use Rattle.wu_tree.specs.declared.events.Node.{Node}
-use Rattle.wu_tree.specs.FileSystems.{FileSystem, acl_of, node_of, child_of, groups_of, is_there}
+use Rattle.wu_tree.specs.FileSystems.{FileSystem, acl_of, node_of, child_of, is_there}
 use Rattle.wu_tree.specs.Rules.{IsTree}
 use Rattle.wu_tree.specs.Steps.{IsEvent, next, refusal_of, with_user}
 use Rattle.wu_mirror.specs.Searches.{MaySearch}
@@ -88,6 +88,11 @@ abbrev pub GoesFrom : List Change → ℕ → List ℕ → Type 0
 GoesFrom changes directory name = (change : Change) × (place : Place) × Contains changes change × Contains change.going place
     × (place.parent ≡ directory) × (place.name ≡ name)
 
+-- a name that comes
+abbrev pub ComesTo : List Change → ℕ → List ℕ → Type 0
+ComesTo changes directory name = (change : Change) × (place : Place) × Contains changes change × Contains change.coming place
+    × (place.parent ≡ directory) × (place.name ≡ name)
+
 -- with the groups of the users
 abbrev pub with_groups : FileSystem → List UserRec → FileSystem
 with_groups fs users = fold (λ fs user. with_user fs user.uid user.groups) fs users
@@ -112,6 +117,31 @@ pub record LeadsTo (batch : Batch) (before after : FileSystem) : Type 0 where
   pub closed_before : HasClosed before
   pub closed_after : HasClosed after
   pub no_number : (ino : ℕ) → child_of before CLOSED (decimal ino) ≡ None
+
+-- All names that come are told, and what is told to go isn't there afterwards.
+pub record TellsAllNames (batch : Batch) (before after : FileSystem) : Type 0 where
+  pub come : (directory : ℕ) (name : List ℕ) (child : ℕ) → directory ≢ CLOSED → child_of after directory name ≡ Some child
+      → (child_of before directory name ≡ Some child) ⊎ ComesTo batch.changes directory name
+  pub go : (directory : ℕ) (name : List ℕ) → GoesFrom batch.changes directory name
+      → child_of after directory name ≢ child_of before directory name
+
+-- ---- what a batch leaves
+
+-- the node is the root, or has a name outside the closed directory
+abbrev pub StandsOutside : FileSystem → ℕ → Type 0
+StandsOutside fs ino =
+    (ino ≡ 1) ⊎ ((directory : ℕ) × (name : List ℕ) × (directory ≢ CLOSED) × (child_of fs directory name ≡ Some ino))
+
+-- the same groups, and outside the closed directory the same names and nodes, with the same rights and lists
+pub record AgreesOutside (fs after : FileSystem) : Type 0 where
+  pub users : fs.users ≡ after.users
+  pub names : (directory : ℕ) (name : List ℕ) → directory ≢ CLOSED → child_of fs directory name ≡ child_of after directory name
+  pub nodes : (ino : ℕ) → StandsOutside after ino → (node_of fs ino ≡ node_of after ino) × (acl_of fs ino ≡ acl_of after ino)
+
+-- What holds after the last event, as long as each event is one that a tree takes and is accepted.
+abbrev pub AtLast : (FileSystem → Type 0) → FileSystem → List Event → Type 0
+AtLast End fs [] = End fs
+AtLast End fs (event ∷ events) = IsEvent event → refusal_of fs event ≡ None → AtLast End (next fs event) events
 
 -- ---- moments
 

@@ -1,5 +1,5 @@
 //! Laws of what a user finds, and of the order of a batch.
-ghost use Rattle.std.specs.Prelude.{◌≡◌, ◌≢◌, ℕ, false, List};
+ghost use Rattle.std.specs.Prelude.{◌≡◌, ◌≢◌, ◌++◌, ℕ, false, List};
 ghost use Rattle.std.specs.List.{AllByRecursion};
 ghost use Rattle.wu_access.specs.declared.Want.TheVariants.{Execute};
 ghost use Rattle.wu_tree.specs.declared.events.Event.{Event};
@@ -7,7 +7,8 @@ ghost use Rattle.wu_tree.specs.FileSystems.{FileSystem, groups_of};
 ghost use Rattle.wu_tree.specs.Rules.{IsTree};
 ghost use Rattle.wu_view.specs.Views.{may, user_with};
 ghost use Rattle.wu_mirror.specs.declared.batches.Batch.{Batch};
-ghost use Rattle.wu_mirror.specs.Moments.{IsText, LeadsTo, ShowsNoMore};
+ghost use Rattle.wu_mirror.specs.Moments.{AgreesOutside, AtLast, IsText, LeadsTo, ShowsNoMore, TellsAllNames};
+ghost use Rattle.wu_mirror.specs.Plans.{head_of, tail_of};
 ghost use Rattle.wu_mirror.specs.Searches.{IsPartFor, MaySearch};
 
 use wu_access::check_is_decided_by_cases;
@@ -42,6 +43,17 @@ pub fn nobody_finds_more()
     ensures { (batch : Batch) (texts : List Event) (before after : FileSystem) (uid : ℕ)
         → LeadsTo batch before after → AllByRecursion IsText texts → uid ≢ 0
         → ShowsNoMore batch texts before after uid }
+{
+    check_is_decided_by_cases();
+}
+
+/// After the last event of a batch that tells of all names there is what the batch leads to: outside the
+/// mirror's closed directory each name and each node, with its rights and its list, and everybody's groups,
+/// as long as each event is accepted.
+pub fn a_batch_leaves_what_it_tells()
+    ensures { (batch : Batch) (texts : List Event) (before after : FileSystem)
+        → LeadsTo batch before after → TellsAllNames batch before after → AllByRecursion IsText texts
+        → AtLast (λ fs. AgreesOutside fs after) before (head_of batch ++ texts ++ tail_of batch) }
 {
     check_is_decided_by_cases();
 }
