@@ -8,14 +8,18 @@ mod reading;
 mod stops;
 mod writing;
 
+ghost use Rattle.std.specs.Prelude.{◌≡◌, [], OnOk};
+ghost use Rattle.std.specs.Io.KnownBytes.{Appends};
+ghost use Rattle.std.specs.List.{flat_map};
+ghost use Rattle.wumpus_plan.specs.Lines.{Passes, answer_of, line_of};
+
 use crate::lines::Lines;
 use crate::reading::read_batch;
 use crate::stops::Stop;
-use crate::writing::put_event;
+use crate::writing::{put_event, put_header};
 use std::alloc::Global;
 use std::io::{self, BufRead, BufReader, Write};
 use std::process::ExitCode;
-use wu_fields::put_decimal;
 use wu_mirror::{Batch, Misfit, Plan, find_misfit, plan};
 use wu_tree::Event;
 
@@ -49,7 +53,9 @@ fn serve(rt: &HostRuntime) -> Result<(), Stop> {
 
 /// Writes the plan of a batch whose last line is that one: a header with the number of events before the texts and
 /// of those after them, and a line for each.
-fn answer<W: Write>(alloc: Global, out: &mut W, line: u64, batch: &Batch) -> Result<(), Stop> {
+fn answer<W: Write>(alloc: Global, out: &mut W, line: u64, batch: &Batch) -> Result<(), Stop>
+    ensures { OnOk result (Appends (W.contents out.old) (W.contents out.new) (answer_of batch.now)) }
+{
     if let Some(Misfit { number, fault }) = find_misfit(alloc, batch)? {
         return Err(Stop::Batch {
             line,
@@ -67,23 +73,23 @@ fn answer<W: Write>(alloc: Global, out: &mut W, line: u64, batch: &Batch) -> Res
     Ok(())
 }
 
-fn put_header(bytes: &mut Vec<u8>, head: u64, tail: u64) -> Result<(), Stop> {
-    bytes.extend_from_slice(b"plan\t")?;
-    put_decimal(bytes, head)?;
-    bytes.push(b'\t')?;
-    put_decimal(bytes, tail)?;
-    bytes.push(b'\n')?;
+/// Puts the lines of the events behind the bytes, and writes these where they are many.
+fn write_events<W: Write>(out: &mut W, bytes: &mut Vec<u8>, events: &[Event]) -> Result<(), Stop>
+    ensures { OnOk result (Passes (W.contents out.old) bytes.old.items (W.contents out.new) bytes.new.items (flat_map line_of events.now)) }
+{
+    for event in events {
+        write_event(out, bytes, event)?;
+    }
     Ok(())
 }
 
-/// Puts the lines of the events behind the bytes, and writes these where they are many.
-fn write_events<W: Write>(out: &mut W, bytes: &mut Vec<u8>, events: &[Event]) -> Result<(), Stop> {
-    for event in events {
-        put_event(bytes, event)?;
-        if bytes.len() >= PIECE {
-            out.write_all(bytes.as_slice())?;
-            bytes.clear();
-        }
+fn write_event<W: Write>(out: &mut W, bytes: &mut Vec<u8>, event: &Event) -> Result<(), Stop>
+    ensures { OnOk result (Passes (W.contents out.old) bytes.old.items (W.contents out.new) bytes.new.items (line_of event.now)) }
+{
+    put_event(bytes, event)?;
+    if bytes.len() >= PIECE {
+        out.write_all(bytes.as_slice())?;
+        bytes.clear();
     }
     Ok(())
 }

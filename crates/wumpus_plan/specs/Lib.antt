@@ -1,0 +1,2 @@
+-- the lines by which events are told
+pub mod Lines
