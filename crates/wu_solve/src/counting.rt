@@ -15,7 +15,7 @@ use crate::first_extents::starting_from;
 use crate::framing::{are_apart, end_of, frame_at};
 use crate::lookup::{addresses_from, addresses_of};
 use crate::meeting::frames_with_needed;
-use crate::solving::{FRAMES_AT_ONCE, solve_at_once};
+use crate::solving::{frames_at_once, solve_at_once};
 use std::alloc::Global;
 use wu_base::{Extent, NoMemory, Range, TermList};
 use wu_gcl::{Expr, tag_bytes};
@@ -99,7 +99,7 @@ fn count_parts(
     let mut files = 0;
     let mut from = 0;
     while from < frames.len() {
-        let some = FRAMES_AT_ONCE.min(frames.len() - from);
+        let some = frames_at_once(&frames[from..]);
         let part = &frames[from..from + some];
         let extents = solve_at_once(alloc, expr, part, lists)?;
         hits += extents.len() as u64;

@@ -1,12 +1,11 @@
 //! Frames that lie apart, and the extents in them.
-ghost use Rattle.std.specs.Prelude.{◌≡◌, ℕ, ◌+◌, ◌<◌, ◌≤◌, All, length, filter, slice_index_or, IsTrue, IfOk, ◌↔◌};
+ghost use Rattle.std.specs.Prelude.{◌≡◌, ℕ, ◌+◌, ◌<◌, ◌≤◌, All, length, filter, slice_index_or, IsTrue, ◌↔◌};
 ghost use Rattle.wu_base.specs.declared.addresses.Range.{Range};
 ghost use Rattle.wu_solve.specs.Frames.{is_place_of, lies_in_one, EndsAfter};
 ghost use Rattle.wu_solve.specs.Solving.{IsFrame};
 ghost use Rattle.wu_base.specs.Ranges.{AreApart};
 
-use std::alloc::Global;
-use wu_base::{Extent, NoMemory, Range};
+use wu_base::{Extent, Range};
 
 /// Where the frame ends: the first address behind it.
 #[inline(always)]
@@ -120,22 +119,38 @@ pub fn lies_in_one(frames: &[Range], remembered: &mut usize, extent: &Extent) ->
     extent.end < end_of(&frame)
 }
 
-/// The extents that lie in one of the frames.
-pub fn lying_in(
-    alloc: Global,
-    extents: &[Extent],
-    frames: &[Range],
-) -> Result<Vec<Extent>, NoMemory>
+/// The extents that lie in one of the frames, in the list's own memory.
+pub fn lying_in(mut extents: Vec<Extent>, frames: &[Range]) -> Vec<Extent>
     requires frames { All IsFrame frames.now }
     requires apart { AreApart frames.now }
-    ensures { IfOk result (λ v. v.items ≡ filter (lies_in_one frames.now) extents.now) }
+    ensures { result.items ≡ filter (lies_in_one frames.now) extents.items }
 {
-    let mut kept = Vec::new(alloc);
+    let mut kept = 0;
     let mut place = 0;
-    for extent in extents {
-        if lies_in_one(frames, &mut place, extent) {
-            kept.push(*extent)?;
+    for i in 0..extents.len() {
+        let extent = extents[i];
+        if lies_in_one(frames, &mut place, &extent) {
+            extents[kept] = extent;
+            kept += 1;
         }
     }
-    Ok(kept)
+    extents.truncate(kept);
+    extents
+}
+
+/// How many of the first frames have no more than so many addresses together; one, if the first alone
+/// has more. Which number it is only time and memory depend on, and no clause says more.
+pub fn frames_within(frames: &[Range], most: u64) -> usize
+    requires { 0 < length frames.now }
+    ensures some { 0 < result }
+    ensures within { result ≤ length frames.now }
+{
+    let mut total: u64 = 0;
+    for i in 0..frames.len() {
+        total = total.saturating_add(frames[i].len);
+        if total > most {
+            return i.max(1);
+        }
+    }
+    frames.len()
 }

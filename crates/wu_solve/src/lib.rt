@@ -27,6 +27,7 @@ mod ways;
 mod windows;
 
 pub use counting::{Counts, count, count_apart, only_term};
+pub use framing::frames_within;
 pub use laws::{extents_ascend, frames_of_texts, needed_terms_stand};
 pub use lookup::find_term;
 pub use meeting::frames_met;

@@ -1,5 +1,5 @@
 //! The extents of a whole expression.
-ghost use Rattle.std.specs.Prelude.{◌≡◌, ◌+◌, ◌^◌, ◌<◌, ◌≤◌, List, [], ◌∷◌, All, IfOk, IfSome};
+ghost use Rattle.std.specs.Prelude.{◌≡◌, ◌+◌, ◌^◌, ◌<◌, ◌≤◌, List, [], ◌∷◌, All, length, IfOk, IfSome};
 ghost use Rattle.wu_base.specs.declared.addresses.TermList.{TermList};
 ghost use Rattle.wu_gcl.specs.declared.expressions.Op.TheVariants.{FollowedBy};
 ghost use Rattle.wu_gcl.specs.Regions.{Region, region_of, Mark, Window, Both};
@@ -10,7 +10,7 @@ ghost use Rattle.wu_solve.specs.Solving.{frames_hits, IsFrame};
 ghost use Rattle.wu_base.specs.Ranges.{AreApart};
 
 use crate::containment::{held, holding};
-use crate::framing::{are_apart, lying_in};
+use crate::framing::{are_apart, frames_within, lying_in};
 use crate::meeting::frames_with_needed;
 use crate::merging::{both_of, followed_by, one_of};
 use crate::nearby::near;
@@ -21,8 +21,22 @@ use std::alloc::Global;
 use wu_base::{Extent, NoMemory, Range, TermList};
 use wu_gcl::{Expr, Op, Tag, tag_bytes};
 
-/// How many frames are solved at a time.
-pub const FRAMES_AT_ONCE: usize = 256;
+/// At most so many frames are solved at a time.
+const FRAMES_AT_ONCE: usize = 256;
+
+/// And at most so many addresses, but for a frame that has more by itself: then the lists of operands
+/// stay in a cache.
+const ADDRESSES_AT_ONCE: u64 = 1 << 20;
+
+/// How many of the first frames are solved at a time.
+pub fn frames_at_once(frames: &[Range]) -> usize
+    requires { 0 < length frames.now }
+    ensures some { 0 < result }
+    ensures within { result ≤ length frames.now }
+{
+    let most = FRAMES_AT_ONCE.min(frames.len());
+    frames_within(&frames[..most], ADDRESSES_AT_ONCE)
+}
 
 /// What the operator makes of the extents of its operands.
 fn combine(
@@ -46,8 +60,8 @@ fn combine(
         Op::NotContaining => holding(alloc, false, left, right),
         Op::NotContainedIn => held(alloc, false, left, right),
         Op::OneOf => one_of(alloc, left, right),
-        Op::BothOf => lying_in(alloc, &both_of(alloc, left, right)?, frames),
-        Op::FollowedBy => lying_in(alloc, &followed_by(alloc, left, right)?, frames),
+        Op::BothOf => Ok(lying_in(both_of(alloc, left, right)?, frames)),
+        Op::FollowedBy => Ok(lying_in(followed_by(alloc, left, right)?, frames)),
     }
 }
 
@@ -167,13 +181,13 @@ fn solve_parts(
     requires apart { AreApart frames.now }
     ensures { IfOk result (λ v. v.items ≡ frames_hits (region_of expr.now) lists.now frames.now) }
 {
-    if frames.len() <= FRAMES_AT_ONCE {
+    if frames.len() < 2 || frames_at_once(frames) == frames.len() {
         return solve_at_once(alloc, expr, frames, lists);
     }
     let mut found = Vec::new(alloc);
     let mut from = 0;
     while from < frames.len() {
-        let some = FRAMES_AT_ONCE.min(frames.len() - from);
+        let some = frames_at_once(&frames[from..]);
         let extents = solve_at_once(alloc, expr, &frames[from..from + some], lists)?;
         found.extend_from_slice(&extents)?;
         from += some;

@@ -16,12 +16,12 @@ use wu_region_rows::{
     are_apart, corpus_of, expression, frames_of, joined_frame, lists_of, places_of, solved,
 };
 use wu_rows::{
-    NoAnswer, bytes, bytes_text, compare, extents_text, flag_text, list_text, number_text,
+    NoAnswer, bytes, bytes_text, compare, extents_text, flag_text, list_text, number, number_text,
     numbers_text, plain_text,
 };
 use wu_solve::{
     Counts, count, count_apart, extents_ascend, find_term, frames_met, frames_of_texts,
-    needed_terms, needed_terms_stand, only_term, solve, solve_apart,
+    frames_within, needed_terms, needed_terms_stand, only_term, solve, solve_apart,
 };
 
 fn main(rt: HostRuntime) -> io::Result<()> {
@@ -43,6 +43,7 @@ fn answer(alloc: Global, call: &str, arguments: &[&str]) -> Result<String, NoAns
         "needed_terms" => needed(alloc, arguments),
         "find_term" => list_place(alloc, arguments),
         "frames_met" => frames_with(alloc, arguments),
+        "frames_within" => first_frames(alloc, arguments),
         _ => law(alloc, call),
     }
 }
@@ -200,6 +201,19 @@ fn frames_with(alloc: Global, arguments: &[&str]) -> Result<String, NoAnswer> {
         starts.push(frame.start)?;
     }
     numbers_text(alloc, &starts)
+}
+
+/// How many of the first of the texts with these numbers have no more than so many tokens together.
+fn first_frames(alloc: Global, arguments: &[&str]) -> Result<String, NoAnswer> {
+    let [texts, numbers, most] = arguments else {
+        return Err(NoAnswer::BadRow);
+    };
+    let corpus = corpus_of(alloc, texts)?;
+    let frames = frames_of(alloc, &corpus, numbers)?;
+    if frames.is_empty() {
+        return Err(NoAnswer::BadRow);
+    }
+    number_text(alloc, frames_within(&frames, number(most)?) as u64)
 }
 
 /// What the expression means over the terms, frame by frame, and how often and in how many frames

@@ -1,10 +1,7 @@
 use Rattle.std.proofs.Common.{◌≡◌, true, false, ◌∙◌}
-use Rattle.std.specs.Prelude.{filter}
 use Rattle.std.proofs.lemmas.Result.{IfOk-weaker}
-use Rattle.wu_gcl.specs.declared.expressions.Op.TheVariants.{Containing, ContainedIn, NotContaining, NotContainedIn, OneOf, BothOf}
-use Rattle.wu_gcl.specs.declared.expressions.Op.TheVariants.{FollowedBy}
+use Rattle.wu_gcl.specs.declared.expressions.Op.TheVariants.{Containing, ContainedIn, NotContaining, NotContainedIn, OneOf}
 use Rattle.wu_gcl.specs.Regions.{Both}
-use Rattle.wu_solve.specs.Frames.{lies_in_one}
 use Rattle.wu_solve.specs.Merging.{holding, held, IsOneOf, IsCover, IsSpan, AreInnermost}
 use Rattle.wu_solve.specs.Solving.{frames_hits}
 use Rattle.wu_solve.proofs.Whole.{containing_whole, not_containing_whole, contained_in_whole, not_contained_in_whole, one_of_whole}
@@ -50,24 +47,15 @@ returns-in-OneOf-clause-hits c = λ one other lists is_left is_right.
 
 pub returns-in_ok-both_of-in-BothOf-clause-hits : goal.returns-in_ok-both_of-in-BothOf-clause-hits
 returns-in_ok-both_of-in-BothOf-clause-hits c = λ one other lists is_left is_right.
-    let frames = c.args.frames.now in
     let found = c.in_ok-both_of-in-BothOf.field-0.items in
     let inner : AreInnermost (IsCover c.args.left.now c.args.right.now) found = c.in_ok-both_of-in-BothOf.ensures in
     rw c.in-BothOf.is
-    (IfOk-weaker c.lying_in.result (λ v. v.items ≡ filter (lies_in_one frames) c.deref.result.now)
-    (λ v. v.items ≡ frames_hits (Both BothOf one other) lists frames)
-    (λ v same. same
-    ∙ rw c.deref.ensures.value (both_of_whole one other lists frames c.requires.apart found (rw (is_left, is_right) at inner)))
-    c.lying_in.ensures)
+    (c.lying_in.ensures ∙ both_of_whole one other lists c.args.frames.now c.requires.apart found (rw (is_left, is_right) at inner))
 
 pub returns-in_ok-followed_by-in-FollowedBy-clause-hits : goal.returns-in_ok-followed_by-in-FollowedBy-clause-hits
 returns-in_ok-followed_by-in-FollowedBy-clause-hits c = λ one other lists is_left is_right.
-    let frames = c.args.frames.now in
     let found = c.in_ok-followed_by-in-FollowedBy.field-0.items in
     let inner : AreInnermost (IsSpan c.args.left.now c.args.right.now) found = c.in_ok-followed_by-in-FollowedBy.ensures in
     rw c.in-FollowedBy.is
-    (IfOk-weaker c.lying_in-in-FollowedBy.result (λ v. v.items ≡ filter (lies_in_one frames) c.deref-in-FollowedBy.result.now)
-    (λ v. v.items ≡ frames_hits (Both FollowedBy one other) lists frames)
-    (λ v same. same ∙ rw c.deref-in-FollowedBy.ensures.value
-    (followed_by_whole one other lists frames c.requires.apart found (rw (is_left, is_right) at inner)))
-    c.lying_in-in-FollowedBy.ensures)
+    (c.lying_in-in-FollowedBy.ensures
+    ∙ followed_by_whole one other lists c.args.frames.now c.requires.apart found (rw (is_left, is_right) at inner))
