@@ -36,7 +36,7 @@ class Control:
         """
         line, _, self.received = self.received.partition(b"\n")
         file = None
-        if line.partition(b"\t")[0] == b"batch" and self.files:
+        if line.partition(b"\t")[0] in (b"batch", b"live") and self.files:
             file = self.files.pop(0)
         if not self.received:
             self.drop_files()

@@ -24,8 +24,9 @@ class Told(Enum):
 class Freshness:
     """What the mirror told. `clock` gives milliseconds, and so are all moments; `stale` 0: never.
 
-    A claim never says more than the last save has: each batch is saved in its last line, a walk is
-    told after that, and a program that is killed begins again with its last save.
+    A claim never says more than the program has after a kill: each batch of a walk is saved in its
+    last line, a walk is told after that, and a program that is killed begins again with its last
+    save, and with the batches that were fed since. Where these are lost, the claim falls.
     """
 
     clock: Callable[[], int]
@@ -54,6 +55,11 @@ class Freshness:
     def forget(self) -> None:
         """The program begins with an empty store."""
         self.walk = self.failed = None
+        self.is_done = False
+
+    def fall(self) -> None:
+        """The program lost what was fed after the last save, and it can't be fed again."""
+        self.walk = None
         self.is_done = False
 
     def age(self) -> int | None:

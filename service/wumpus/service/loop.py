@@ -7,6 +7,7 @@ killed before it can save, and begins again with its last save, which is that af
 before. A kill fails what was under way, and nothing that waits.
 """
 
+import os
 import selectors
 import socket
 import time
@@ -29,10 +30,11 @@ from .groups import Groups
 from .merging import Merging
 from .tasks import Asked, Cause, Failure, Fed, Line, NoFile
 from .turns import Turns
+from .unsaved import Unsaved
 from .waits import Waits
 
 OK = b"ok\n"
-FOR_PROGRAM = (b"ask", b"batch")  # lines of a mirror for which the program has to be free
+FOR_PROGRAM = (b"ask", b"batch", b"live")  # lines of a mirror for which the program has to be free
 TICK = 0.2  # seconds
 FIRST_AT_MOST = 4.0  # so many times its own seconds may a query have for an opening beside
 
@@ -66,10 +68,11 @@ class Service:
         self.tick = tick  # called five times a second
         self.persons = persons
         self.selector = selectors.DefaultSelector()
+        self.unsaved = Unsaved()
         self.engine = Engine(start, self.selector, bounds.batch_seconds, log, self._lost)
         self.turns = Turns()
         self.waits = Waits()
-        self.merging = Merging(places.folder, log)
+        self.merging = Merging(places.folder, log, saved=self.unsaved.saved)
         self.freshness = Freshness(moment, int(bounds.stale_seconds * 1000))
         self.clients = Clients(
             places.ask,
@@ -90,15 +93,47 @@ class Service:
         """The program is gone, with what it knew and hadn't saved."""
         self.groups.doubt()
         self.turns.forget()
+        self.unsaved.lost()
 
     # ---- what is next
 
     def _next(self) -> None:
         """Gives the program something to do, if it has nothing."""
-        while self._next_control() or (
-            self.engine.is_free() and (self._next_query() or self._next_work())
+        while self._next_again() or (
+            self._next_control()
+            or (self.engine.is_free() and (self._next_query() or self._next_work()))
         ):
             pass
+
+    def _next_again(self) -> bool:
+        """Feeds again what a program lost that was killed, before all else."""
+        batch = self.unsaved.next() if self.engine.is_free() else None
+        if not self.unsaved.can_be_fed() and self.unsaved.again:
+            self._fall("more batches were lost than are kept")
+            return True
+        if batch is None:
+            return False
+
+        def ends(failure: Failure | None, _taken: float) -> None:
+            if failure is None:
+                self.unsaved.went_in()
+            elif self.unsaved.again:
+                self._fall(failure.why)
+
+        file, due = batch
+        self.engine.give(Fed(os.dup(file), due, ends))
+        return True
+
+    def _fall(self, why: str) -> None:
+        """The program may have rights that were taken away: nobody is answered before a walk.
+
+        The mirrors are cut off, so that none tells of a walk before it asked where the program
+        stands.
+        """
+        self.log(f"what was taken away can't be fed again, and waits for a walk: {why}")
+        self.unsaved.saved()
+        self.freshness.fall()
+        self.controls.end()
 
     def _next_control(self) -> bool:
         """Does what a mirror asked for, if its line is whole.
@@ -198,7 +233,7 @@ class Service:
 
     def _do(self, control: Control, fields: list[bytes], file: int | None) -> None:
         """Does what a line of a mirror says. The file of a batch is this method's."""
-        if fields[0] == b"batch" and file is not None:
+        if fields[0] in (b"batch", b"live") and file is not None:
             self._feed(control, fields, file)
         elif fields[0] == b"ask" and len(fields) == 2:
             self._question(control, unescape(fields[1]))
@@ -244,23 +279,28 @@ class Service:
             self._fail(control, told.value)
 
     def _feed(self, control: Control, fields: list[bytes], file: int) -> None:
-        """Feeds a batch, whose file is the task's from here on."""
+        """Feeds a batch, whose file is the task's from here on.
+
+        One that is `live` takes rights away and has no save in its last line.
+        """
         due = _number(fields[1]) if len(fields) == 2 else None
+        kept = os.dup(file) if fields[0] == b"live" else None
 
         def ends(failure: Failure | None, _taken: float) -> None:
             control.is_served = False
             if failure is None:
-                self.engine.is_well()
-                self.freshness.batch_went_in()
-                self.merging.fed()
-                self.batches_fed += 1
+                self._went_in(due or 0, kept)
                 self.controls.tell(control, OK)
-            else:
-                self._batch_failed(control, failure)
+                return
+            if kept is not None:
+                os.close(kept)
+            self._batch_failed(control, failure)
 
         try:
             task = Fed(file, due or 0, ends)
         except NoFile as error:
+            if kept is not None:
+                os.close(kept)
             self._batch_failed(control, Failure(Cause.OTHERS, str(error)))
             return
         if not due:
@@ -269,6 +309,17 @@ class Service:
         self.groups.doubt()
         control.is_served = True
         self.engine.give(task)
+
+    def _went_in(self, due: int, kept: int | None) -> None:
+        """A batch is in the program: saved, or kept until something is."""
+        self.engine.is_well()
+        self.batches_fed += 1
+        if kept is not None:
+            self.unsaved.add(kept, due)
+            return
+        self.unsaved.saved()
+        self.freshness.batch_went_in()
+        self.merging.fed()
 
     def _batch_failed(self, control: Control, failure: Failure) -> None:
         """A batch isn't in the program, so what its walk saw isn't either."""
@@ -281,6 +332,7 @@ class Service:
         """Moves the store aside, and begins anew."""
         self.freshness.forget()
         self.groups.forget()
+        self.unsaved.saved()
         self.engine.drop(Failure(Cause.OTHERS, "the store is moved aside"))
         self.engine.begin_now()
         try:
@@ -344,6 +396,7 @@ class Service:
         if not is_whole:
             self.engine.drop(Failure(Cause.OTHERS, "the service ends"))
         status = self.engine.end()
+        self.unsaved.saved()
         self.clients.end()
         self.controls.end()
         self.selector.close()

@@ -34,6 +34,7 @@ class Merging:
     log: Callable[[str], None]
     clock: Callable[[], float] = time.monotonic
     room: Callable[[Path], int] = room_left
+    saved: Callable[[], None] = lambda: None  # is called after each save
     is_idle: bool = True  # nothing is left to merge
     unsaved: float = 0.0  # seconds of work since the last save
     save_cost: float = 0.0  # seconds of the last save
@@ -117,6 +118,7 @@ class Merging:
         if told != b"ok":
             self._put_off()
             return
+        self.saved()
         self.unsaved = 0.0
         self.save_cost = taken
         if self.is_idle:
