@@ -69,10 +69,10 @@ def entries_of(value: bytes, hides: bool = False) -> bytes:
     return entries
 
 
-def _list_at(descriptor: int) -> bytes:
+def _list_at(place: int | str) -> bytes:
     """The kernel's bytes of the list of the node that is open there; empty where it has none."""
     try:
-        return os.getxattr(descriptor, ATTRIBUTE)
+        return os.getxattr(place, ATTRIBUTE)
     except OSError as error:
         if error.errno in _ABSENT:
             return b""
@@ -85,18 +85,18 @@ class Access:
 
     unlisted: bool = False
 
-    def of_file(self, descriptor: int, status: os.stat_result) -> Rights:
+    def of_file(self, place: int | str, status: os.stat_result) -> Rights:
         """The rights of a file that is open, whose status is given.
 
         Raises `BadList`, and `OSError`.
         """
-        value = _list_at(descriptor)
+        value = _list_at(place)
         entries = entries_of(value) if value else b""
         return Rights(status.st_mode & 0o7777, status.st_uid, status.st_gid, entries)
 
-    def of_directory(self, descriptor: int, status: os.stat_result) -> Rights:
+    def of_directory(self, place: int | str, status: os.stat_result) -> Rights:
         """The rights that are given for a directory. Raises `BadList`, and `OSError`."""
-        value = _list_at(descriptor)
+        value = _list_at(place)
         entries = entries_of(value, not self.unlisted) if value else b""
         return Rights(self.mode_of_directory(status), status.st_uid, status.st_gid, entries)
 

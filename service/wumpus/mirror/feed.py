@@ -12,9 +12,10 @@ from ..shared.script import spell
 from ..shared.store import Failed
 from .batch import SAVE, Batch, Texts, begin, end, question
 from .changes import Groups, Pairs
-from .nodes import MARK, ROOT, Tree
+from .ledger import Ledger
+from .nodes import MARK, ROOT, Node, Tree
 from .planner import Plan, Planner
-from .reach import NoMemory, Reach
+from .reach import NoMemory, Reach, Served
 from .state import Addition, BadState, Files, State, apply, new_serial, read_state
 
 LINES_AT_LEAST = 1000  # of a piece of a batch for which memory is short
@@ -33,6 +34,7 @@ class Feeder:
         self.progress = progress
         self.state = State()
         self.batches = 0
+        self.ledger = Ledger()
 
     # ---- where the program stands
 
@@ -94,7 +96,11 @@ class Feeder:
             found = read_state(self.files.next)
         except BadState:
             return None
-        return found[0] if found is not None else None
+        if found is None:
+            return None
+        for addition in found[1]:
+            apply(found[0], addition)
+        return found[0]
 
     def _is_at(self, serial: str) -> bool:
         return self.reach.ask(question(serial)) == b"ok"
@@ -106,50 +112,99 @@ class Feeder:
 
         Raises `Failed`, also where there is no plan: then nothing is fed.
         """
-        old = self.state
+        old, before = self.state, self.state.serial
         plan = self.planner.plan(old.tree, tree, old.users, users)
-        new = replace(old, tree=tree, users=users, following=following, unlisted=unlisted)
+        written = before if before and plan.is_empty() else new_serial(before)
+        new = replace(
+            old, serial=written, tree=tree, users=users, following=following, unlisted=unlisted
+        )
         nodes = old.tree.nodes
-        changed = [node for number, node in tree.nodes.items() if nodes.get(number) is not node]
-        is_fed = not plan.is_empty() or not old.serial
-        if is_fed:
-            new.serial = new_serial(old.serial)
-        is_small = old.serial and users == old.users and unlisted == old.unlisted
+        changed = {number for number, node in tree.nodes.items() if nodes.get(number) is not node}
+        is_small = before and users == old.users and unlisted == old.unlisted
         is_small = is_small and not self.files.is_long()
-        if is_small and _have_same_names(old.tree, tree):
-            # Only nodes changed, so that the whole state needn't be written: it may be large.
-            if changed or is_fed:
-                self.files.add(Addition(new.serial, changed))
-            if is_fed:
-                self._feed_lines(old.serial, new.serial, [*plan.head, *plan.tail])
-        else:
+        is_small = is_small and _have_same_names(old.tree, tree)
+        if not is_small:
             self.files.prepare(new)
+        with self.ledger:
+            is_other, seen = self._correct(tree)
+            if is_other or old.serial != before:
+                plan = self.planner.plan(old.tree, tree, old.users, users)
+            is_fed = written != before or not plan.is_empty()
+            if written == before:
+                new.serial = new_serial(old.serial) if is_fed else old.serial
+            # Where only nodes changed the whole state isn't written: it may be large.
+            told = changed | seen if is_small else seen
+            if told or new.serial != written or (is_small and is_fed):
+                addition = Addition(new.serial, [tree.nodes[number] for number in told])
+                self.files.add(addition, self.files.path if is_small else self.files.next)
             if is_fed:
                 self._feed_lines(old.serial, new.serial, [*plan.head, *plan.tail])
-            self.files.commit()
-        self.state = new
+            if not is_small:
+                self.files.commit()
+            self.state = new
 
-    def feed_texts(self, pairs: Pairs, texts: Texts) -> None:
+    def _correct(self, tree: Tree) -> tuple[bool, set[int]]:
+        """Has a walk's tree give nothing that was taken away since the walk began.
+
+        Whether that changed it, and the numbers of all nodes that were seen since then.
+        """
+        nodes, seen = self.state.tree.nodes, self.ledger.seen
+        numbers = {number for number in seen if number in nodes and number in tree.nodes}
+        is_other = False
+        for number in numbers:
+            node = self.ledger.corrected(tree.nodes[number])
+            is_other = is_other or node is not tree.nodes[number]
+            tree.nodes[number] = node
+        return is_other, numbers
+
+    def take_away(self, nodes: list[Node], reach: Served, planner: Planner) -> None:
+        """Feeds rights that became less, under the lock. It isn't saved. Raises `Failed`."""
+        before = self.state.serial
+        addition = Addition(new_serial(before), nodes)
+        plan = planner.plan_nodes([(self.state.tree.nodes[node.number], node) for node in nodes])
+        self.files.add(addition)
+        ended = end(addition.serial)[:-1]
+        lines = [*begin(before, addition.serial), *plan.head, *plan.tail, *ended]
+        batch = Batch(self.folder, lines, None, [])
+        try:
+            reach.feed(batch, b"live")
+        finally:
+            batch.close()
+        apply(self.state, addition)
+
+    def save_taken(self, reach: Served) -> None:
+        """Saves what was taken away so, under the lock. Raises `Failed`."""
+        batch = Batch(self.folder, [SAVE], None, [])
+        try:
+            reach.feed(batch)
+        finally:
+            batch.close()
+
+    def feed_texts(self, after: list[Node], texts: Texts) -> None:
         """Brings some files to other texts and rights; no name changes.
 
-        Raises `NoMemory`, and `Failed`, also where there is no plan: then nothing is fed.
+        None is given a right that was taken away since the looks began. Raises `NoMemory`, and
+        `Failed`, also where there is no plan: then nothing is fed.
         """
-        before = self.state.serial
-        plan = self.planner.plan_nodes(pairs)
-        is_fed = not plan.is_empty() or texts.count > 0
-        nodes = [after for before, after in pairs if before != after]
-        addition = Addition(new_serial(before) if is_fed else before, nodes)
-        if not nodes:
-            return
-        self.files.add(addition)
-        if is_fed:
-            self._feed_addition(before, addition, plan, texts)
-        apply(self.state, addition)
+        with self.ledger:
+            before, known = self.state.serial, self.state.tree.nodes
+            pairs: Pairs = [(known[one.number], self.ledger.corrected(one)) for one in after]
+            plan = self.planner.plan_nodes(pairs)
+            is_fed = not plan.is_empty() or texts.count > 0
+            nodes = [after for before, after in pairs if before != after]
+            addition = Addition(new_serial(before) if is_fed else before, nodes)
+            if not nodes:
+                return
+            self.files.add(addition)
+            if is_fed:
+                self._feed_addition(before, addition, plan, texts)
+            apply(self.state, addition)
 
     def save(self) -> None:
         """Writes the whole state, in which more is known than was fed."""
-        self.files.prepare(self.state)
-        self.files.commit()
+        with self.ledger:
+            self.files.prepare(self.state)
+            self.files.commit()
 
     def _feed_addition(self, before: str, addition: Addition, plan: Plan, texts: Texts) -> None:
         head = [*begin(before, addition.serial), *plan.head]

@@ -2,9 +2,10 @@
 
 The control socket of the service takes lines with TABs between their fields, and answers each with
 one: `ask LINE` passes a line to the program and answers `reply LINE`; `batch DUE`, which brings a
-file, feeds it whole; `reset` moves the store aside; `fed MOMENT` tells when the walk began whose
-names and rights the program has; `done` tells that all that there is was fed once. `ok` is the
-answer to the last four, or `failed WHY`.
+file, feeds it whole; `live DUE` does so with one that only takes rights away, and saves nothing;
+`reset` moves the store aside; `fed MOMENT` tells when the walk began whose names and rights the
+program has; `done` tells that all that there is was fed once. `ok` is the answer to the last five,
+or `failed WHY`.
 """
 
 import contextlib
@@ -181,10 +182,10 @@ class Served:
             raise Failed("the service says: " + b" ".join(fields).decode("utf-8", "replace"))
         return told
 
-    def feed(self, batch: Batch) -> None:
-        """Hands a batch over as a file."""
+    def feed(self, batch: Batch, word: bytes = b"batch") -> None:
+        """Hands a batch over as a file; by the word `live` one that isn't saved."""
         try:
-            line = b"batch\t%d\n" % batch.due
+            line = b"%b\t%d\n" % (word, batch.due)
             socket.send_fds(self.socket, [line], [batch.file.fileno()])
         except OSError as error:
             raise Failed(f"the service is gone: {error}") from error
@@ -204,6 +205,11 @@ class Served:
         """Tells that all that there is was fed once."""
         self._send(b"done\n")
         self._expect()
+
+    def abort(self) -> None:
+        """Ends the connection; another thread that waits for an answer gets none."""
+        with contextlib.suppress(OSError):
+            self.socket.shutdown(socket.SHUT_RDWR)
 
     def close(self) -> None:
         """Closes the connection."""

@@ -294,10 +294,11 @@ class Files:
         """The prepared state wasn't fed."""
         self.next.unlink(missing_ok=True)
 
-    def add(self, addition: Addition) -> None:
-        """Writes a later batch that is about to be fed."""
-        self.before = self.path.stat().st_size
-        self._write(self.path, [spell_addition(addition)], os.O_APPEND)
+    def add(self, addition: Addition, path: Path | None = None) -> None:
+        """Writes a later batch that is about to be fed; or more of a state that is prepared."""
+        path = path or self.path
+        self.before = path.stat().st_size
+        self._write(path, [spell_addition(addition)], os.O_APPEND)
 
     def take_back(self) -> None:
         """The last addition wasn't fed, and another one is to come."""

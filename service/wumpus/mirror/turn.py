@@ -21,7 +21,7 @@ from ..shared.progress import Progress
 from ..shared.script import NUMBER_MAX
 from .batch import Texts
 from .budget import Accounts, Budget
-from .changes import Groups, Pairs
+from .changes import Groups
 from .documents import Documents
 from .due import Due
 from .feed import Feeder
@@ -98,7 +98,8 @@ class Walked:
 class Mirror:
     """Walks, feeds and looks. `pending` has what waits, and `remarks` what is shut, and why.
 
-    `pulse` is called as often as something got on. `planner` orders each batch.
+    `pulse` is called as often as something got on, and `walk_is_fed` after each walk. `planner` orders
+    each batch.
     """
 
     def __init__(
@@ -115,6 +116,7 @@ class Mirror:
         self.folder = folder
         self.progress = progress
         self.pulse = pulse
+        self.walk_is_fed: Callable[[], None] = lambda: None
         self.pending = Pending()
         self.documents = Documents(None) if documents is None else documents
         self.remarks = Remarks(progress.warn_of)
@@ -168,6 +170,7 @@ class Mirror:
 
         Raises `BadRoot`, and `Failed`.
         """
+        self.feeder.ledger.begin()
         began, moment = time.time(), clock.moment()
         unlisted = wish.limits.access.unlisted
         if self.state.unlisted != unlisted:
@@ -175,6 +178,7 @@ class Mirror:
         target = self._target(wish)
         seconds = (clock.moment() - moment) / 1000
         self.feeder.feed_tree(target.tree, wish.users, target.following, unlisted)
+        self.walk_is_fed()
         self.reach.fed(moment)
         self.walked = Walked(began, seconds, target.names, time.time())
         self.whole = replace(wish, force=False, first=())
@@ -196,6 +200,7 @@ class Mirror:
         """
         if self.whole != replace(wish, first=()):
             return False
+        self.feeder.ledger.begin()
         remarks = Remarks(self.progress.warn_of)
         accounts = Accounts(wish.budget, wish.person_of)
         accounts.reserve(self.state.tree)
@@ -210,6 +215,7 @@ class Mirror:
             return False
         unlisted = wish.limits.access.unlisted
         self.feeder.feed_tree(target.tree, wish.users, target.following, unlisted)
+        self.walk_is_fed()
         self.pulse()
         waiting = list(self.pending.staying(target.tree, target.places, part.inside))
         self.pending.renew([*target.places, *waiting], wish.person_of)
@@ -257,6 +263,7 @@ class Mirror:
         """Looks at files for so long, and feeds what was seen: whether more is to be looked at."""
         if self.pending.turns:
             texts = Texts(self.folder)
+            self.feeder.ledger.begin()
             try:
                 limit = self.slice_bytes if self.state.complete else FIRST_BYTES
                 taken = self._take(wish, time.monotonic() + seconds, texts, limit)
@@ -365,6 +372,7 @@ class Mirror:
 
     def _make(self, wish: Wish, seconds: float) -> None:
         """Has text of documents made for so long, and feeds what was made."""
+        self.feeder.ledger.begin()
         texts = Texts(self.folder)
         try:
             made = self._made(wish, time.monotonic() + seconds, texts)
@@ -396,9 +404,8 @@ class Mirror:
 
     def _feed_made(self, made: list[Node], texts: Texts) -> None:
         """Feeds what was made; where the program has no memory for that, it comes again later."""
-        nodes = self.state.tree.nodes
         try:
-            self.feeder.feed_texts([(nodes[node.number], node) for node in made], texts)
+            self.feeder.feed_texts(made, texts)
         except NoMemory:
             self.room = None
             for node in made:
@@ -415,11 +422,9 @@ class Mirror:
 
     def _feed(self, wish: Wish, taken: list[Looked], texts: Texts) -> None:
         """Feeds what was seen; where the program has no memory for that, less comes next."""
-        nodes = self.state.tree.nodes
-        pairs: Pairs = [(nodes[found.node.number], found.node) for found in taken]
         began = time.monotonic()
         try:
-            self.feeder.feed_texts(pairs, texts)
+            self.feeder.feed_texts([found.node for found in taken], texts)
         except NoMemory:
             self.room = None
             if len(taken) == 1:
