@@ -1,6 +1,6 @@
 # The programs around wumpus: make install-service, make service-test, make deb. None is proved.
 # WUMPUS and PLANNER are the built programs, and PREFIX and DESTDIR are those of the file that includes this one.
-SERVICE_SBIN := wumpus-extract wumpus-mirror wumpusd wumpus-status wumpus-why
+SERVICE_SBIN := wumpus-extract wumpus-mirror wumpus-watch wumpusd wumpus-status wumpus-why
 SERVICE_BIN := wumpus-ask wumpus-web wumpus-lint
 SERVICE_PACKAGES := $(notdir $(patsubst %/,%,$(dir $(wildcard service/wumpus/*/__init__.py))))
 SERVICE_SCRIPTS := $(shell grep -slI '^\#!.*python3' \
@@ -17,6 +17,9 @@ SERVICE_TESTS := \
 	kernel \
 	requests \
 	server \
+	at_once \
+	kills \
+	judged \
 	client \
 	web \
 	service \
@@ -27,6 +30,8 @@ SERVICE_TESTS := \
 	mirror \
 	allow \
 	narrow \
+	live \
+	meeting \
 	bounds \
 	unseen \
 	neighbours \

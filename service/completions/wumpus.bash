@@ -7,15 +7,19 @@ _wumpus_options() {
         mapfile -t COMPREPLY < <(compgen -d -- "$current")
         return
         ;;
+    --live)
+        mapfile -t COMPREPLY < <(compgen -W "narrow off" -- "$current")
+        return
+        ;;
     --group)
         mapfile -t COMPREPLY < <(compgen -g -- "$current")
         return
         ;;
-    --mirror-user)
+    --mirror-user | --owner)
         mapfile -t COMPREPLY < <(compgen -u -- "$current")
         return
         ;;
-    --program | --planner | --mirror | --users | --subuid | --metrics | --exclude-from | --settings | --socket | --documents | --extract | --now)
+    --program | --planner | --mirror | --users | --subuid | --metrics | --exclude-from | --settings | --socket | --watch | --documents | --extract | --now)
         mapfile -t COMPREPLY < <(compgen -f -- "$current")
         return
         ;;
@@ -35,13 +39,17 @@ _wumpus() {
 
 _wumpus_mirror() {
     _wumpus_options "--folder --program --planner --sockets --exclude --exclude-from --one-file-system
-        --unlisted --users --served --every --now --force --anew --dry-run --budget-names --budget-directories
+        --unlisted --users --served --every --live --watch --now --force --anew --dry-run --budget-names --budget-directories
         --budget-links --budget-bytes --budget-seconds --budget-documents --documents --extract
         --quiet --version --help" d
 }
 
 _wumpus_extract() {
     _wumpus_options "--socket --documents --check --version --help" f
+}
+
+_wumpus_watch() {
+    _wumpus_options "--socket --owner --check --version --help" f
 }
 
 _wumpusd() {
@@ -108,6 +116,7 @@ _wumpus_why() {
 complete -F _wumpus wumpus
 complete -o filenames -F _wumpus_mirror wumpus-mirror
 complete -o filenames -F _wumpus_extract wumpus-extract
+complete -o filenames -F _wumpus_watch wumpus-watch
 complete -o filenames -F _wumpusd wumpusd
 complete -o nosort -F _wumpus_ask wumpus-ask
 complete -o nosort -F _wumpus_web wumpus-web

@@ -23,7 +23,7 @@ LEFT = (
 )  # fmt: skip
 PROGRAMS = (
     "wumpus-mirror", "wumpusd", "wumpus-ask", "wumpus-web", "wumpus-lint", "wumpus-status",
-    "wumpus-why", "wumpus-extract",
+    "wumpus-why", "wumpus-extract", "wumpus-watch",
 )  # fmt: skip
 
 

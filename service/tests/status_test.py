@@ -34,6 +34,10 @@ def of_mirror(now: float) -> dict[str, Any]:
         "shut": [{"path": f"/home/{NAME}", "owner": 4000000001, "why": "torn"}],
         "left_out": [{"path": "/home/nfs", "why": "nfs4"}],
         "held": None,
+        "live": {
+            "why": None, "unmarked": [{"path": f"/over{NAME}", "why": "not supported"}],
+            "narrowed": 12, "batches": 5, "lost": 1,
+        },
     }  # fmt: skip
 
 
@@ -88,6 +92,8 @@ def texts(place: Place, score: Score) -> None:
         "2.5 s, 102300 names", "3 files, 4.5 MB",
         "12 of 120 documents have no text yet: no\\x1b server", "4000000001: 7, 2.0 kB",
         "40 budget-names, 2 torn",
+        "12 taken away in 5 batches; lost: 1",
+        "not /overevil\\x1b[31m\\x0a\\xff, which waits for the next turn: not supported",
         "/home/nfs: nfs4", "/home/evil\\x1b[31m\\x0a\\xff: torn",
     ):  # fmt: skip
         score.check(due in out, f"{due!r} in {out!r}")
@@ -99,6 +105,13 @@ def texts(place: Place, score: Score) -> None:
     path = values["mirror"]["shut"][0]["path"]
     score.check(status == WELL and path == f"/home/{NAME}", f"--json: {path!r}")
     score.check(values["attention"] == [] and values["service"]["waiting"] == 1, "--json")
+    away = {"why": "/run/watch\x1b: none", "unmarked": [], "narrowed": 0, "batches": 0, "lost": 0}
+    for live, due in ((None, "next turn\n"), (away, "next turn: /run/watch\\x1b: none\n")):
+        place.put("mirror.status", of_mirror(time.time()) | {"live": live})
+        status, out, _ = place.run()
+        score.check(status == WELL and due in out, f"without what is live: {out}")
+    place.put("mirror.status", of_mirror(time.time()) | {"live": {"why": 7}})
+    score.check(place.run()[0] == TROUBLE, "what is live, and isn't of its type")
 
 
 def needs_attention(place: Place, score: Score) -> None:

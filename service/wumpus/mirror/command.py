@@ -19,6 +19,8 @@ from .. import VERSION
 from ..extract.client import Extractor
 from ..extract.kinds import TABLE, BadTable, Table, table_here
 from ..extract.packets import SOCKET
+from ..live.narrowing import Narrowing
+from ..live.setup import add_live, beside
 from ..shared.notify import notify
 from ..shared.numbers import count, seconds
 from ..shared.persons import Persons
@@ -85,6 +87,7 @@ def parser() -> argparse.ArgumentParser:
     add("--anew", action="store_true", help="move the store aside, and feed all anew")
     add("--dry-run", action="store_true", help="write what would be fed, and feed nothing")
     add_budget(options)
+    add_live(options)
     add("--quiet", action="store_true", help="no warnings, no progress, no report")
     add("--version", action="version", version=f"wumpus-mirror {VERSION}")
     return options
@@ -204,6 +207,7 @@ class Session:
         self.persons = Persons(progress.warn)
         self.table: Table | None = None  # of kinds of documents, as it was good last
         self.told = ""  # what was missing or held at the last turn
+        self.narrowing: Narrowing | None = None
 
     def run(self) -> None:
         """Raises the `FAILURES`: `Unfinished` after a single turn."""
@@ -231,7 +235,9 @@ class Session:
             if self.given.dry_run:
                 mirror.dry_run(self._wish(), sys.stdout.buffer)
             else:
-                self._turns(mirror)
+                with beside(self.given, mirror, reach, self.persons.of) as self.narrowing:
+                    self.watch.status.narrowing = self.narrowing
+                    self._turns(mirror)
             is_whole = True
         except Unfinished:
             is_whole = True
@@ -305,7 +311,7 @@ class Session:
             asked = take_wanted(self.folder)
             if asked and not self._narrow(mirror, asked):
                 return asked
-            if not (more or asked) or time.monotonic() >= due:
+            if not (more or asked) or time.monotonic() >= due or self._wants_walk():
                 return Wanted()
 
     def _narrow(self, mirror: Mirror, wanted: Wanted) -> bool:
@@ -330,7 +336,7 @@ class Session:
                 mirror.rest()
                 self.watch.status.count(mirror.state.tree)
                 self.watch.tell("waiting", self.told or None, is_due=True)
-            if asked:
+            if asked or (self.narrowing is not None and self.narrowing.takes_walk()):
                 return asked
         return Wanted()
 
@@ -339,6 +345,10 @@ class Session:
         trouble = mirror.documents.trouble
         if trouble is not None and unmade(mirror.state.tree):
             self.progress.warn(f"no text of documents is made: {trouble}")
+
+    def _wants_walk(self) -> bool:
+        """Whether a walk has to come at once, since the kernel's word was lost. Raises `Failed`."""
+        return self.narrowing is not None and self.narrowing.wants_walk()
 
     def _tell_unfinished(self, report: Report) -> None:
         """Tells what is missing or held: once, or by `Unfinished` where there is one turn."""

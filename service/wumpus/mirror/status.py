@@ -9,7 +9,7 @@ import os
 import time
 from collections import Counter
 from pathlib import Path
-from typing import Any
+from typing import Any, Protocol
 
 from ..shared.whole import write_whole
 from .nodes import Tree
@@ -23,6 +23,13 @@ FORMAT = 1
 EVERY = 2.0  # seconds between two writings
 
 
+class Told(Protocol):
+    """What goes on beside the turns."""
+
+    def told(self) -> dict[str, object]:
+        """What is told of it."""
+
+
 class StatusFile:
     """Writes it, at most each two seconds but at the end of a turn."""
 
@@ -31,6 +38,7 @@ class StatusFile:
         self.last = 0.0
         self.owners: dict[int, dict[str, int]] = {}  # names and bytes, as after the last walk
         self.documents = self.unmade = 0  # all, and those of which no text was made yet
+        self.narrowing: Told | None = None
 
     def count(self, tree: Tree) -> None:
         """Counts names and bytes of texts by owner, after a walk."""
@@ -89,6 +97,7 @@ class StatusFile:
             ],
             "left_out": [{"path": os.fsdecode(path), "why": why} for path, why in remarks.left_out],
             "held": "; ".join(held) or None,
+            "live": None if self.narrowing is None else self.narrowing.told(),
         }
 
     def _owners(self, remarks: Remarks, pending: Pending) -> dict[str, Any]:

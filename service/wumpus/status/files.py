@@ -137,8 +137,19 @@ class Documents:
 
 
 @dataclass(frozen=True)
+class Live:
+    """What is done beside the turns: `why` tells why it isn't, and `unmarked` where it can't be."""
+
+    why: str | None
+    unmarked: list[LeftOut]
+    narrowed: int
+    batches: int
+    lost: int
+
+
+@dataclass(frozen=True)
 class MirrorStatus:
-    """What the mirror tells."""
+    """What the mirror tells. `live` is None where there are turns alone."""
 
     written: float
     state: str
@@ -151,6 +162,7 @@ class MirrorStatus:
     left_out: list[LeftOut]
     held: str | None
     documents: Documents | None = None
+    live: Live | None = None
 
     def shut_by_reason(self) -> dict[str, int]:
         """How much is shut by each word, of all owners."""
@@ -267,6 +279,7 @@ def _mirror_of(told: Fields) -> MirrorStatus:
         left_out=[LeftOut(one.text("path"), one.text("why")) for one in told.objects("left_out")],
         held=told.text_or_none("held"),
         documents=_documents_of(told),
+        live=None if told.values.get("live") is None else _live_of(told.object("live")),
     )
 
 
@@ -276,6 +289,12 @@ def _documents_of(told: Fields) -> Documents | None:
         return None
     of = told.object("documents")
     return Documents(of.whole("all"), of.whole("unmade"), of.text_or_none("trouble"))
+
+
+def _live_of(told: Fields) -> Live:
+    unmarked = [LeftOut(one.text("path"), one.text("why")) for one in told.objects("unmarked")]
+    counts = (told.whole("narrowed"), told.whole("batches"), told.whole("lost"))
+    return Live(told.text_or_none("why"), unmarked, *counts)
 
 
 def _user_of(owners: Fields, word: str) -> int:

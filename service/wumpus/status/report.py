@@ -5,7 +5,7 @@ import time
 from collections.abc import Iterator
 
 from ..shared.progress import plain
-from .files import MirrorStatus, Owner, ServiceStatus
+from .files import Live, MirrorStatus, Owner, ServiceStatus
 
 FIRST = 20  # owners, and paths, that are told where not all are wanted
 _UNITS = ("bytes", "kB", "MB", "GB", "TB")
@@ -75,6 +75,18 @@ def _of_mirror(mirror: MirrorStatus) -> Iterator[str]:
     if documents is not None and documents.all:
         why = f": {plain(documents.trouble)}" if documents.unmade and documents.trouble else ""
         yield f"  to read  {documents.unmade} of {documents.all} documents have no text yet{why}"
+    yield from _of_live(mirror.live)
+
+
+def _of_live(live: Live | None) -> Iterator[str]:
+    """What is taken away beside the turns."""
+    if live is None or live.why is not None:
+        why = "" if live is None else f": {plain(live.why or '')}"
+        yield f"  live     no: what is taken away waits for the next turn{why}"
+        return
+    yield f"  live     {live.narrowed} taken away in {live.batches} batches; lost: {live.lost}"
+    for one in live.unmarked:
+        yield f"           not {plain(one.path)}, which waits for the next turn: {plain(one.why)}"
 
 
 def _of_owners(mirror: MirrorStatus, whole: bool) -> Iterator[str]:

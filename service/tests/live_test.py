@@ -1,0 +1,165 @@
+"""What is taken away at once: events as bytes, who is next, and the meet of rights."""
+
+import struct
+import sys
+from collections.abc import Callable
+from pathlib import Path
+from unittest import mock
+
+from harness import Score, options
+
+from wumpus.live import calls, emptier, waiting  # isort: skip
+from wumpus.live.emptier import Kept  # isort: skip
+from wumpus.live.events import Told, Unreadable, key_of, split, told_in  # isort: skip
+from wumpus.live.reader import events_in  # isort: skip
+from wumpus.live.waiting import Item, Waiting  # isort: skip
+from wumpus.mirror.ledger import less, narrowed  # isort: skip
+from wumpus.mirror.nodes import Node, Rights  # isort: skip
+from wumpus.service.merging import Merging  # isort: skip
+
+PLAIN = Rights(0o644, 5, 20)
+
+
+def piece(kind: int, key: bytes, name: bytes = b"") -> bytes:
+    """What an event names once."""
+    rest = name + b"\0" * (4 - len(name) % 4) if name else b""
+    return struct.pack("=BBH", kind, 0, 4 + len(key) + len(rest)) + key + rest
+
+
+def event(what: int, *pieces: bytes, version: int = 3) -> bytes:
+    """An event as the kernel writes it."""
+    names = b"".join(pieces)
+    return struct.pack("=IBBHQii", 24 + len(names), version, 0, 24, what, -1, 7) + names
+
+
+def events(score: Score) -> None:
+    """Bytes of events, and bytes that are none."""
+    place, file = key_of(9, struct.pack("=Ii", 8, 1) + b"directory"[:8]), key_of(9, struct.pack(
+        "=Ii", 12, 1) + b"file" * 3)  # fmt: skip
+    data = event(calls.FAN_ATTRIB, piece(2, place, b"name"), piece(1, file))
+    data += event(calls.FAN_Q_OVERFLOW)
+    data += event(calls.FAN_MOVE_SELF, piece(2, place, b"."))
+    data += event(calls.FAN_ATTRIB, piece(1, file))
+    found = [(what, first, told_in(names)) for what, first, names in split(data)]
+    due = [
+        (calls.FAN_ATTRIB, place, Told(place, b"name", file)),
+        (calls.FAN_Q_OVERFLOW, b"", Told()),
+        (calls.FAN_MOVE_SELF, place, Told(place, b".")),
+        (calls.FAN_ATTRIB, file, Told(file=file)),
+    ]
+    score.check(found == due, f"events: {found}")
+    for bad in (event(4, version=4), data[:30], data[:-1]):
+        try:
+            list(split(bad))
+            score.check(False, f"{bad[:40]!r} is read")
+        except (Unreadable, struct.error):
+            score.check(True, "")
+
+
+def kept(score: Score) -> None:
+    """What waits for the mirror: equal events once, bounded for each directory, of each some."""
+    places = [key_of(9, struct.pack("=Ii", 8, 1) + b"place%03d" % one) for one in range(2)]
+    wait = Kept()
+    with mock.patch.object(emptier, "OF_ONE", 3), mock.patch.object(emptier, "AT_ONCE", 4):
+        for name in (b"a", b"a", b"b", b"c"):
+            wait.add(event(calls.FAN_DELETE, piece(2, places[0], name)))
+        wait.add(event(calls.FAN_ATTRIB, piece(2, places[0], b"a")))
+        wait.add(event(calls.FAN_ATTRIB, piece(2, places[1], b"x")))
+        score.check(wait.flags == 0, "nothing is lost")
+        wait.add(event(calls.FAN_DELETE, piece(2, places[0], b"d")))
+        score.check(wait.flags == emptier.LOST_OF_ONE, f"one directory has too many: {wait.flags}")
+        for number in range(5):
+            wait.add(event(calls.FAN_ATTRIB, piece(1, places[0] + b"%d" % number)))
+        score.check(wait.flags == emptier.LOST_OF_ONE, "files alone are no reason for a walk")
+        wait.add(event(calls.FAN_Q_OVERFLOW))
+        first = wait.give()
+        size, flags = emptier.HEAD.unpack_from(first)
+        score.check(flags == emptier.LOST_OF_ONE | emptier.LOST, f"what was lost: {flags}")
+        score.check(len(first) == emptier.HEAD.size + size, "how long it is")
+        told = [(what, told_in(names).name) for what, names in events_in(first[8:])]
+        due = [(calls.FAN_DELETE | calls.FAN_ATTRIB, b"a"), (calls.FAN_ATTRIB, b"x")]
+        score.check(told[:2] == due, f"of each directory one: {told}")
+        more = 0
+        while not wait.is_empty():
+            more += len(events_in(wait.give()[8:]))
+        score.check((len(told), more, wait.size) == (3, 4, 0), f"then the rest: {told} {more}")
+
+
+def persons(score: Score) -> None:
+    """Each in turn; who causes many batches waits, and user 0 doesn't."""
+    now = [0.0]
+    line = Waiting(lambda: now[0])
+    for number in range(50):
+        line.put(5, Item(number))
+        line.put(5, Item(number))
+    line.put(6, Item(100))
+    line.put(0, Item(200))
+    first = [line.take() for _ in range(3)]
+    score.check(first == [(5, Item(0)), (6, Item(100)), (0, Item(200))], f"in turn: {first}")
+    for _ in range(20):
+        line.charge(5)
+    line.put(6, Item(101))
+    score.check([line.take(), line.take()] == [(6, Item(101)), None], "who had twenty waits")
+    score.check(line.seconds() == 0.5, f"for half a second: {line.seconds()}")
+    now[0] = 0.5
+    score.check(line.take() == (5, Item(1)), "and is next then")
+    line.charge(5)
+    score.check(line.take() is None, "once")
+    for number in range(40):
+        line.put(0, Item(number))
+        line.charge(0)
+    score.check(line.take() == (0, Item(0)), "user 0 isn't bounded")
+    with mock.patch.object(waiting, "AT_MOST", 3):
+        due = [line.put(7, Item(number)) for number in range(5)]
+        score.check(due == [True] * 3 + [False] * 2, f"not more than there is room for: {due}")
+    now[0] = 100.0
+    while line.take() is not None:
+        pass
+    line.tidy()
+    score.check(not line.persons and line.seconds() is None, f"nothing is left: {line.persons}")
+
+
+def merged(score: Score) -> None:
+    """A save of what was merged saves what was taken away, too."""
+    saved = mock.Mock()
+    merging = Merging(Path("/"), print, saved=saved)
+    merging._saved(b"refused", 1.0)
+    score.check(saved.call_count == 0, "a save that failed")
+    merging._saved(b"ok", 1.0)
+    score.check(saved.call_count == 1, "a save")
+
+
+def rights(score: Score) -> None:
+    """The meet of rights, and a node that is looked at again where it gives less."""
+    listed = Rights(0o640, 5, 20, b"g::4,u:6:4,m::4")
+    cases = (
+        (PLAIN, Rights(0o600, 5, 20), 0o600),
+        (PLAIN, Rights(0o755, 5, 20), 0o644),
+        (PLAIN, Rights(0o644, 6, 20), 0),
+        (PLAIN, Rights(0o644, 5, 21), 0),
+        (PLAIN, listed, 0),
+        (listed, listed._replace(mode=0o600), 0o600),
+        (listed, PLAIN, 0),
+        (Rights(0, 5, 20), PLAIN, 0),
+    )
+    for known, seen, mode in cases:
+        found = less(known, seen)
+        score.check(found == known._replace(mode=mode), f"{known} and {seen}: {found}")
+    node = Node(9, False, PLAIN, b"text", 1, 77, 4)
+    score.check(narrowed(node, PLAIN) is node, "a node that gives what was seen")
+    after = narrowed(node, Rights(0o600, 5, 20))
+    score.check((after.rights.mode, after.changed, node.changed) == (0o600, 0, 77), f"{after}")
+
+
+def main() -> int:
+    """Runs the test; it needs no program."""
+    options(__doc__ or "").parse_args()
+    score = Score("live")
+    parts: tuple[Callable[[Score], None], ...] = (events, kept, persons, merged, rights)
+    for part in parts:
+        part(score)
+    return score.end()
+
+
+if __name__ == "__main__":
+    sys.exit(main())

@@ -1,0 +1,124 @@
+"""The process that empties the kernel's queue of events, whatever the mirror does.
+
+It has a process of its own, as a walk leaves a thread too little of the processor. It joins equal
+events and keeps the others, by the directory that each names, until the mirror asks for them. Where
+one directory has too many, or the kernel had no room, some are lost, and the mirror is told.
+"""
+
+import os
+import select
+import socket
+import struct
+import sys
+
+from ..shared.program import die_with_parent
+from .calls import FAN_Q_OVERFLOW
+from .events import Unreadable, is_of_directory, split
+
+READ = 1 << 18  # bytes at once
+READS = 8  # between two looks at the mirror
+PAUSE = 5  # milliseconds between two readings, in which the kernel joins equal events
+OF_ONE = 20_000  # events that wait, of one directory, and of files without one
+BYTES_MAX = 64 << 20
+OF_EVENT = 400  # bytes beside its own that an event takes
+AT_ONCE = 20_000  # events that the mirror is given at once
+ASKS = b"?"
+HEAD = struct.Struct("=II")  # of what is given: its bytes, and flags
+LOST, LOST_OF_ONE = 1, 2  # by the kernel, or for want of memory; and of one directory
+EVENT = struct.Struct("=QI")  # what happened, and how many bytes tell where
+FILES = b""  # in the place of the directory, of events that name none
+
+
+class Kept:
+    """The events that wait."""
+
+    def __init__(self) -> None:
+        self.events: dict[bytes, dict[bytes, int]] = {}
+        self.size = 0
+        self.flags = 0
+
+    def is_empty(self) -> bool:
+        """Whether there is nothing to be given."""
+        return not self.events and not self.flags
+
+    def add(self, data: bytes) -> None:
+        """Takes what the kernel told. Raises `Unreadable`."""
+        for what, first, names in split(data):
+            if what & FAN_Q_OVERFLOW:
+                self.flags |= LOST
+                continue
+            directory = first if is_of_directory(names) else FILES
+            events = self.events.get(directory)
+            if events is None:
+                events = self.events[directory] = {}
+            before = events.get(names)
+            if before is not None:
+                events[names] = before | what
+            elif self.size >= BYTES_MAX:
+                self.flags |= LOST
+            elif len(events) >= OF_ONE:
+                self.flags |= 0 if directory == FILES else LOST_OF_ONE
+            else:
+                events[names] = what
+                self.size += len(names) + OF_EVENT
+
+    def give(self) -> bytes:
+        """Some of them, of each directory as many, as bytes."""
+        pieces = []
+        each = max(1, AT_ONCE // max(1, len(self.events)))
+        for directory in list(self.events):
+            events = self.events[directory]
+            for names in list(events)[:each] if len(events) > each else list(events):
+                pieces.append(EVENT.pack(events.pop(names), len(names)) + names)
+                self.size -= len(names) + OF_EVENT
+            if not events:
+                del self.events[directory]
+        told = b"".join(pieces)
+        flags, self.flags = self.flags, 0
+        return HEAD.pack(len(told), flags) + told
+
+
+def empty(group: int, mirror: socket.socket) -> None:
+    """Empties a group until the mirror ends. Raises `Unreadable`, and `OSError`."""
+    kept = Kept()
+    is_asked = False
+    poll = select.poll()
+    poll.register(group, select.POLLIN)
+    poll.register(mirror, select.POLLIN)
+    pause = select.poll()
+    pause.register(mirror, select.POLLIN)
+    while True:
+        ready = [number for number, _ in poll.poll()]
+        if mirror.fileno() in ready:
+            if not mirror.recv(1):
+                return
+            is_asked = True
+        if group in ready:
+            _read(group, kept)
+        if is_asked and not kept.is_empty():
+            mirror.sendall(kept.give())
+            is_asked = False
+        if not is_asked:
+            pause.poll(PAUSE)
+        else:
+            select.select([], [], [], PAUSE / 1000)
+
+
+def _read(group: int, kept: Kept) -> None:
+    """Reads what is there, but not on and on."""
+    for _ in range(READS):
+        try:
+            kept.add(os.read(group, READ))
+        except BlockingIOError:
+            return
+
+
+def main() -> None:
+    """Runs with the descriptors of the group and of the mirror's socket as words."""
+    die_with_parent()
+    group, number = int(sys.argv[1]), int(sys.argv[2])
+    try:
+        empty(group, socket.socket(fileno=number))
+    except (Unreadable, OSError) as error:
+        print(f"wumpus-mirror: events can't be read: {error}", file=sys.stderr)
+        sys.exit(1)
