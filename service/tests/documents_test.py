@@ -96,7 +96,9 @@ class Echo(Sleeping):
 
     def text_of(self, name: bytes, document: Document) -> Made | Failed:
         """Makes a text."""
+        self.names.append(name)
         text = os.pread(document.descriptor, document.size, 0)
+        self.may.wait(60)
         return Made(text, "html", 0, 0.0)
 
 
@@ -524,6 +526,30 @@ def revoked(folder: Path, program: str, score: Score) -> None:
     trial.close()
 
 
+def overtaken(folder: Path, program: str, score: Score) -> None:
+    """A text is fed for the bytes of which it was made alone, and not where others came since."""
+    extractor = Echo(0.0)
+    trial = Trial(folder / "overtaken", program, extractor)
+    extractor.may.clear()
+    path = trial.write("a.html", b"first")
+    with mock.patch.object(turn, "DOCUMENT_SECONDS", 0.2):
+        trial.walk()
+        for _ in range(3):
+            trial.look()
+        score.check(extractor.names == [b"a.html"], f"it is under way: {extractor.names}")
+        path.write_bytes(b"second")
+        trial.walk()
+        trial.look()
+        extractor.may.set()
+        for _ in range(3):
+            trial.look()
+            score.check(trial.count("first") == 0, "a text of other bytes is fed")
+    trial.turn()
+    told = [trial.count(word) for word in ("first", "second")]
+    score.check(told == [0, 1], f"afterwards: {told}")
+    trial.close()
+
+
 def fair(folder: Path, program: str, score: Score) -> None:
     """Persons in turn by their time, each with as much of a minute as a budget says."""
     extractor = Sleeping(0.05)
@@ -670,6 +696,7 @@ def main() -> int:
         raw(folder, given.program, score)
         raced(folder, given.program, score)
         revoked(folder, given.program, score)
+        overtaken(folder, given.program, score)
         fair(folder, given.program, score)
         room(folder, given.program, extracting.path, score)
         command(folder, given.program, extracting, score)
