@@ -572,6 +572,24 @@ def fair(folder: Path, program: str, score: Score) -> None:
     trial.close()
 
 
+def between(folder: Path, program: str, score: Score) -> None:
+    """A document waits for some slices of looks, and not until no file has to be looked at."""
+    extractor = Sleeping(0.0)
+    trial = Trial(folder / "between", program, extractor)
+    trial.turn()
+    trial.write("late.html", page("x"), BOB)
+    trial.walk()
+    trial.look()
+    for number in range(MANY * 20):
+        trial.write(f"ann/{number}.txt", b"medlar\n")
+    trial.walk()
+    for _ in range(10):
+        trial.mirror.look(trial.wish, 0.001)
+    left = trial.mirror.pending.files
+    score.check(left > 0 and trial.count("late") == 1, f"beside {left} files: {extractor.names}")
+    trial.close()
+
+
 def room(folder: Path, program: str, path: Path, score: Score) -> None:
     """A text counts by its own length, and what is too much is told, and tried again."""
     extractor = Counted(path)
@@ -698,6 +716,7 @@ def main() -> int:
         revoked(folder, given.program, score)
         overtaken(folder, given.program, score)
         fair(folder, given.program, score)
+        between(folder, given.program, score)
         room(folder, given.program, extracting.path, score)
         command(folder, given.program, extracting, score)
         stopped(trial, extracting, score)

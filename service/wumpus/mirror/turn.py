@@ -2,7 +2,8 @@
 
 A turn is a walk; one batch of names and rights, in which all that has to be looked at is shut; and
 then looks at files, in slices between which the next walk may come. So what is taken away waits
-for no text. Where no file is left to be looked at, texts of documents are fed as they are made.
+for no text. Where no file is left to be looked at, texts of documents are fed as they are made, and
+else for a while after each slice.
 """
 
 import math
@@ -43,6 +44,8 @@ from .way import Ways
 
 SLICE_SECONDS = 20.0
 DOCUMENT_SECONDS = 5.0  # after which texts of documents are fed
+BETWEEN_SHARE = 0.1  # of a slice's time, for them after it, where more files wait to be looked at
+BETWEEN_LEAST = 0.1  # seconds of that
 PULSE_SECONDS = 1.0  # that one of them is waited for at once
 FEED_SECONDS = 2.0  # that a batch of texts is to take, for which queries wait, and the next walk
 SLICE_BYTES = 16 << 20  # of texts in a batch at most
@@ -262,6 +265,7 @@ class Mirror:
     def look(self, wish: Wish, seconds: float) -> bool:
         """Looks at files for so long, and feeds what was seen: whether more is to be looked at."""
         if self.pending.turns:
+            began = time.monotonic()
             texts = Texts(self.folder)
             self.feeder.ledger.begin()
             try:
@@ -274,8 +278,12 @@ class Mirror:
                 self.progress.clear()
             self._count()
             self._be_complete()
-        elif self.documents.has_work(wish.budget.documents):
-            self._make(wish, min(seconds, DOCUMENT_SECONDS))
+            # Who changes files without end would else keep all documents waiting as long.
+            if self.pending.turns and self.state.complete:
+                spent = time.monotonic() - began
+                self._make_some(wish, max(BETWEEN_LEAST, BETWEEN_SHARE * spent))
+        else:
+            self._make_some(wish, min(seconds, DOCUMENT_SECONDS))
         return bool(self.pending.turns) or self.documents.has_work(wish.budget.documents)
 
     def _take(self, wish: Wish, until: float, texts: Texts, limit: float) -> list[Looked]:
@@ -370,8 +378,10 @@ class Mirror:
             if not unsorted:
                 self.feeder.save()
 
-    def _make(self, wish: Wish, seconds: float) -> None:
-        """Has text of documents made for so long, and feeds what was made."""
+    def _make_some(self, wish: Wish, seconds: float) -> None:
+        """Has text of documents made for so long, if any is due, and feeds what was made."""
+        if not self.documents.has_work(wish.budget.documents):
+            return
         self.feeder.ledger.begin()
         texts = Texts(self.folder)
         try:
