@@ -9,6 +9,7 @@ import signal
 import socket
 import subprocess
 import sys
+import threading
 import time
 from collections.abc import Mapping
 from contextlib import suppress
@@ -22,6 +23,8 @@ from kernel import User, become
 from service_test import Served, mirror_until_done
 
 from wumpus.ask import asking  # isort: skip
+from wumpus.ask.content import Lack, Reader  # isort: skip
+from wumpus.shared.lines import Lines  # isort: skip
 
 ESCAPE = "evil\x1b[31m\x07\u009b2J\u202e"
 ANN, BOB = User(1000, (1000,)), User(1001, (1001,))
@@ -258,6 +261,39 @@ def changed(served: Served, score: Score) -> None:
     score.check(told.status == 0 and "changed" in told.error, f"a link in its place: {told}")
     plan.unlink()
     plan.write_text(text)
+    _changed_above(served, score)
+
+
+def _changed_above(served: Served, score: Score) -> None:
+    """A link in a directory's place isn't followed, and nobody is told that a pipe was opened."""
+    tree = served.tree.resolve()
+    below = tree / "above" / "below"
+    below.mkdir(parents=True)
+    (below / "key").write_text("lunch\n")
+    reader = Reader()
+    told = reader.lines_of(os.fsencode(below / "key"))
+    score.check(isinstance(told, Lines) and told.lines == [b"lunch"], f"as it is: {told}")
+    link = tree / "above" / "link"
+    link.symlink_to(below)
+    for path in (link / "key", link / ".." / "below" / "key"):
+        told = reader.lines_of(os.fsencode(path))
+        score.check(told is Lack.CHANGED, f"by a link on the way: {told}")
+    pipe = below / "pipe"
+    os.mkfifo(pipe)
+    other = threading.Thread(target=_write_to, args=(pipe,), daemon=True)
+    other.start()
+    time.sleep(0.2)
+    told = reader.lines_of(os.fsencode(pipe))
+    other.join(0.3)
+    score.check(told is Lack.CHANGED and other.is_alive(), f"a pipe was opened: {told}")
+    os.close(os.open(pipe, os.O_RDONLY | os.O_NONBLOCK))
+    other.join()
+    shutil.rmtree(tree / "above")
+
+
+def _write_to(pipe: Path) -> None:
+    """Waits until somebody opens a pipe."""
+    os.close(os.open(pipe, os.O_WRONLY))
 
 
 def other_programs(served: Served, score: Score) -> None:

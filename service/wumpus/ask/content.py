@@ -15,6 +15,7 @@ if TYPE_CHECKING:
     from ..extract.asker import Asker
 
 _FLAGS = os.O_RDONLY | os.O_NOFOLLOW | os.O_NONBLOCK | os.O_NOCTTY | os.O_CLOEXEC
+_WAY = os.O_PATH | os.O_DIRECTORY | os.O_NOFOLLOW | os.O_CLOEXEC
 
 
 class Lack(Enum):
@@ -45,7 +46,7 @@ class Reader:
         The file may have changed since then, or be something else that was put in its place.
         """
         try:
-            descriptor = os.open(path, _FLAGS)
+            descriptor = _opened(path)
         except OSError:
             return Lack.CHANGED
         with open(descriptor, "rb") as file:
@@ -69,3 +70,22 @@ class Reader:
 
             self.asker = Asker(self.table)
         return self.asker.lines_of(name, descriptor) or Lack.UNMADE
+
+
+def _opened(path: bytes) -> int:
+    """A descriptor of the file at an absolute path. Raises `OSError`.
+
+    No link is followed on the way: who owns a directory there may have put one that leads to files
+    of the user's own. A pipe isn't opened, whose other end would be told so.
+    """
+    _, *above, name = path.split(b"/")
+    directory = os.open(b"/", _WAY)
+    try:
+        for one in above:
+            before, directory = directory, os.open(one, _WAY, dir_fd=directory)
+            os.close(before)
+        if not stat.S_ISREG(os.stat(name, dir_fd=directory, follow_symlinks=False).st_mode):
+            raise FileNotFoundError
+        return os.open(name, _FLAGS, dir_fd=directory)
+    finally:
+        os.close(directory)
