@@ -17,6 +17,7 @@ import time
 from collections import Counter
 from contextlib import suppress
 from pathlib import Path
+from unittest import mock
 
 from extracting import EXTRACT, Extracting, has, made, text
 from harness import Score, folder_of_own, needs_root, options
@@ -457,6 +458,16 @@ def asking(folder: Path, score: Score) -> None:
         score.check(found == due, f"user {user}: {found}")
 
 
+def asking_together(folder: Path, score: Score) -> None:
+    """After as much time as all may take together none is made, until the next question."""
+    with mock.patch.object(asker, "TOGETHER", 0.0):
+        asks = asker.Asker(table_of(BUILT_IN))
+        found = [_place(asks, folder / "a.html") for _ in range(2)]
+        asks.begin()
+        found.append(_place(asks, folder / "a.html"))
+    score.check(found[0] == found[2] != "-" and found[1] == "-", f"together: {found}")
+
+
 def asking_without(folder: Path, score: Score) -> None:
     """Where the kernel has no Landlock a user is shown no line; nor after one that takes long."""
     told, tells = os.pipe()
@@ -506,6 +517,7 @@ def main() -> int:
         programs(folder, score)
         asking(folder, score)
         (folder / "slow.html").write_bytes(b"<" * 3_000_000)
+        asking_together(folder, score)
         asking_without(folder, score)
         extracting.close()
     return score.end()

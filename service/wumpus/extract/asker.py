@@ -4,6 +4,7 @@ A search mustn't run a hostile document of somebody else with the rights of its 
 """
 
 import os
+import time
 
 from ..shared.lines import Lines
 from .documents import DOCUMENT_MAX, Document
@@ -16,6 +17,7 @@ from .walls import Missing
 
 MADE_MAX = 10  # documents for one question
 SECONDS = 2  # of the processor for one of them: who asks waits
+TOGETHER = 4.0  # seconds of the clock for all of them: after it none is begun
 _PIECE = 1 << 20
 
 
@@ -34,17 +36,18 @@ def lines_of(made: Made) -> Lines:
 
 
 class Asker:
-    """Makes the texts of at most ten documents, and of none after one that took too long."""
+    """Makes the texts of at most ten documents, and of none after those that took too long."""
 
     def __init__(self, table: Table) -> None:
-        self.left = MADE_MAX
+        self.begin()
         self.workers: OwnWorkers | None = None
         self.is_ready = False
         self.table = table
 
     def begin(self) -> None:
-        """Another question: as many documents once more."""
+        """Another question: as many documents once more, and as much time."""
         self.left = MADE_MAX
+        self.spent = 0.0  # seconds
 
     def lines_of(self, name: bytes, descriptor: int) -> Lines | None:
         """The lines of a document's file that is open for reading, from its beginning.
@@ -55,6 +58,7 @@ class Asker:
         if not self._is_ready() or self.left == 0 or self.workers is None:
             return None
         self.left -= 1
+        began = time.monotonic()
         with Document() as document:
             try:
                 if not _fill(document, descriptor):
@@ -62,6 +66,10 @@ class Asker:
                 made = text_of(self.workers, self.table, name, document, SECONDS)
             except OSError:
                 return None
+            finally:
+                self.spent += time.monotonic() - began
+        if self.spent >= TOGETHER:
+            self.left = 0
         if isinstance(made, Failed):
             if made.reason in (Reason.TIME, Reason.LATE):
                 self.left = 0
