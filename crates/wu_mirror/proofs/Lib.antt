@@ -9,3 +9,4 @@ pub mod Coming
 pub mod Giving
 pub mod Gone
 pub mod Whole
+pub mod Fitting

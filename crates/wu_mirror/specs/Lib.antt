@@ -5,3 +5,9 @@ pub mod Searches
 -- the order of a batch, from what to what it leads, and the moments between
 pub mod Plans
 pub mod Moments
+-- what is checked of a batch alone
+pub mod Misfits
+-- ---- What private functions and proofs cite
+
+-- what is wrong in one change by itself
+pub mod Faults

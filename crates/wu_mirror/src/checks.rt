@@ -1,4 +1,13 @@
 //! What a batch has to keep so that it can be planned.
+ghost use Rattle.std.specs.Prelude.{◌≡◌, ◌||◌, IfNone, IfOk, IsSorted, None, map, nat_eq};
+ghost use Rattle.std.specs.Ordering.{nat_cmp};
+ghost use Rattle.std.specs.List.{AllByRecursion, IsDistinct, list_all};
+ghost use Rattle.wu_tree.specs.FileSystems.{are_name_bytes, is_dots as dots_test, is_name as name_test, is_name_length};
+ghost use Rattle.wu_mirror.specs.Moments.{AreApart, is_told};
+ghost use Rattle.wu_mirror.specs.Plans.{is_empty};
+ghost use Rattle.wu_mirror.specs.Faults.{fault_of, fault_of_names as names_fault, fault_of_root as root_fault, is_named, is_place, may_have_text};
+ghost use Rattle.wu_mirror.specs.Misfits.{Fits};
+
 use crate::batches::{Batch, CLOSED, Change, Fate, Place};
 use std::alloc::Global;
 use thiserror::Error;
@@ -53,19 +62,20 @@ pub struct Misfit {
     pub fault: Fault,
 }
 
-/// What is wrong in the batch, if anything is. The one error is out of memory. The time is that of
-/// sorting numbers and names.
-pub fn find_misfit(alloc: Global, batch: &Batch) -> Result<Option<Misfit>, NoMemory> {
+/// What is wrong in the batch, if anything is: the first fault of one change by itself, then a user
+/// that is there twice, then a root that is missing where groups change, and then what is wrong of
+/// several changes. The one error is out of memory. The time is that of sorting numbers and names.
+pub fn find_misfit(alloc: Global, batch: &Batch) -> Result<Option<Misfit>, NoMemory>
+    ensures none { IfOk result (λ found. IfNone found (Fits batch.now)) }
+{
     let changes = batch.changes.as_slice();
-    for change in changes {
-        if let Some(fault) = fault_in(change) {
-            return Ok(Some(fault_at(change, fault)));
-        }
+    if let Some(found) = change_misfit(changes) {
+        return Ok(Some(found));
     }
     if let Some(found) = user_misfit(alloc, batch.users.as_slice())? {
         return Ok(Some(found));
     }
-    if !batch.users.is_empty() && !has_root(changes) {
+    if !keeps_root(batch) {
         return Ok(Some(Misfit {
             number: ROOT,
             fault: Fault::OpenRoot,
@@ -77,24 +87,50 @@ pub fn find_misfit(alloc: Global, batch: &Batch) -> Result<Option<Misfit>, NoMem
     name_misfit(alloc, changes)
 }
 
-fn fault_at(change: &Change, fault: Fault) -> Misfit {
+fn fault_at(change: &Change, fault: Fault) -> Misfit
+    ensures number { result.number ≡ change.now.ino }
+    ensures fault { result.fault ≡ fault }
+{
     Misfit {
         number: change.ino,
         fault,
     }
 }
 
+/// Whether no groups change, or the root is among the changes.
+fn keeps_root(batch: &Batch) -> bool
+    ensures { result ≡ (is_empty batch.now.users || is_told batch.now.changes 1) }
+{
+    batch.users.is_empty() || has_root(batch.changes.as_slice())
+}
+
 /// Whether the root is among the changes.
-fn has_root(changes: &[Change]) -> bool {
+fn has_root(changes: &[Change]) -> bool
+    ensures { result ≡ is_told changes.now 1 }
+{
     changes.iter().any(|change| change.ino == ROOT)
 }
 
+/// The first change in which something is wrong by itself, and what is.
+fn change_misfit(changes: &[Change]) -> Option<Misfit>
+    ensures none { IfNone result (AllByRecursion (λ change. fault_of change ≡ None) changes.now) }
+{
+    for change in changes {
+        if let Some(fault) = fault_in(change) {
+            return Some(fault_at(change, fault));
+        }
+    }
+    None
+}
+
 /// What is wrong in one change by itself.
-fn fault_in(change: &Change) -> Option<Fault> {
+fn fault_in(change: &Change) -> Option<Fault>
+    ensures { result ≡ fault_of change.now }
+{
     if change.ino == 0 || change.ino == CLOSED {
         return Some(Fault::Reserved);
     }
-    if change.has_new_text && !may_have_text(change) {
+    if change.has_new_text && !may_have_text(change.kind, &change.fate) {
         return Some(Fault::Text);
     }
     if !are_names(change.going.as_slice()) || !are_names(change.coming.as_slice()) {
@@ -103,90 +139,177 @@ fn fault_in(change: &Change) -> Option<Fault> {
     if change.ino == ROOT {
         return fault_of_root(change);
     }
-    fault_of_names(change)
+    fault_of_names(
+        change.kind,
+        &change.fate,
+        change.going.len(),
+        change.coming.len(),
+    )
 }
 
 /// Whether the node can be given a text: it is a file that is there after the batch.
-fn may_have_text(change: &Change) -> bool {
-    change.kind == Kind::File && !matches!(change.fate, Fate::Goes)
+fn may_have_text(kind: Kind, fate: &Fate) -> bool
+    ensures { result ≡ may_have_text kind fate.now }
+{
+    match (kind, fate) {
+        (Kind::File, Fate::Stays { .. } | Fate::Made { .. }) => true,
+        (Kind::File, Fate::Goes) | (Kind::Directory, _) => false,
+    }
 }
 
 /// What is wrong in a change of the root.
-fn fault_of_root(change: &Change) -> Option<Fault> {
-    let is_sound = change.kind == Kind::Directory
-        && matches!(change.fate, Fate::Stays { .. })
-        && change.going.is_empty()
-        && change.coming.is_empty();
-    if is_sound { None } else { Some(Fault::Root) }
+fn fault_of_root(change: &Change) -> Option<Fault>
+    ensures { result ≡ root_fault change.now }
+{
+    match (change.kind, &change.fate) {
+        (Kind::Directory, Fate::Stays { .. })
+            if change.going.is_empty() && change.coming.is_empty() => None,
+        _ => Some(Fault::Root),
+    }
 }
 
 /// What is wrong in the number of names of a node other than the root.
-fn fault_of_names(change: &Change) -> Option<Fault> {
-    let (going, coming) = (change.going.len(), change.coming.len());
-    if change.kind == Kind::Directory && (going > 1 || coming > 1) {
-        return Some(Fault::ManyNames);
+fn fault_of_names(kind: Kind, fate: &Fate, going: usize, coming: usize) -> Option<Fault>
+    ensures { result ≡ names_fault kind fate.now going coming }
+{
+    match kind {
+        Kind::Directory if going > 1 || coming > 1 => Some(Fault::ManyNames),
+        _ if is_named(kind, fate, going, coming) => None,
+        _ => Some(Fault::Unnamed),
     }
-    let is_named = match &change.fate {
+}
+
+/// Whether so many names go and come of a node of that fate.
+fn is_named(kind: Kind, fate: &Fate, going: usize, coming: usize) -> bool
+    ensures { result ≡ is_named kind fate.now going coming }
+{
+    match fate {
         Fate::Stays {
             has_other_name: true,
             ..
-        } => change.kind == Kind::File || going == 0 && coming == 0,
+        } => match kind {
+            Kind::Directory => going == 0 && coming == 0,
+            Kind::File => true,
+        },
         Fate::Stays { .. } => going > 0 && coming > 0,
         Fate::Made { .. } => going == 0 && coming > 0,
         Fate::Goes => going > 0 && coming == 0,
-    };
-    if is_named { None } else { Some(Fault::Unnamed) }
+    }
 }
 
 /// Whether each place has a name that a node may have, and is in another directory than the closed one.
-fn are_names(places: &[Place]) -> bool {
-    places.iter().all(|place| place.parent != CLOSED
-        && place.parent != 0
-        && is_name(place.name.as_slice()))
+fn are_names(places: &[Place]) -> bool
+    ensures { result ≡ list_all is_place places.now }
+{
+    places.iter().all(|place| is_place(place))
+}
+
+fn is_place(place: &Place) -> bool
+    ensures { result ≡ is_place place.now }
+{
+    place.parent != CLOSED && place.parent != 0 && is_name(place.name.as_slice())
 }
 
 /// Whether the bytes are a name: 1 to NAME_MAX of them, none of them `/` or NUL, and neither `.` nor `..`.
-fn is_name(name: &[u8]) -> bool {
-    let is_short = !name.is_empty() && name.len() <= NAME_MAX;
-    is_short
-        && name.iter().all(|byte| *byte != b'/' && *byte != 0)
-        && name != b".".as_slice()
-        && name != b"..".as_slice()
+fn is_name(name: &[u8]) -> bool
+    ensures { result ≡ name_test name.now }
+{
+    has_name_length(name) && has_name_bytes(name) && !is_dots(name)
+}
+
+fn has_name_length(name: &[u8]) -> bool
+    ensures { result ≡ is_name_length name.now }
+{
+    0 < name.len() && name.len() <= NAME_MAX
+}
+
+fn has_name_bytes(name: &[u8]) -> bool
+    ensures { result ≡ are_name_bytes name.now }
+{
+    name.iter().all(|byte| *byte != b'/' && *byte != 0)
+}
+
+fn is_dots(name: &[u8]) -> bool
+    ensures { result ≡ dots_test name.now }
+{
+    name == b".".as_slice() || name == b"..".as_slice()
 }
 
 /// The user that is there twice.
-fn user_misfit(alloc: Global, users: &[UserRec]) -> Result<Option<Misfit>, NoMemory> {
+fn user_misfit(alloc: Global, users: &[UserRec]) -> Result<Option<Misfit>, NoMemory>
+    ensures none { IfOk result (λ found. IfNone found (IsDistinct nat_eq (map (λ user. user.uid) users.now))) }
+{
+    let mut numbers = uids_of(alloc, users)?;
+    numbers.sort()?;
+    match doubled(numbers.as_slice()) {
+        Some(number) => Ok(Some(Misfit {
+            number,
+            fault: Fault::UserTwice,
+        })),
+        None => Ok(None),
+    }
+}
+
+fn uids_of(alloc: Global, users: &[UserRec]) -> Result<Vec<Uid>, NoMemory>
+    ensures { IfOk result (λ numbers. numbers.items ≡ map (λ user. user.uid) users.now) }
+{
     let mut numbers: Vec<Uid> = Vec::new(alloc);
     for user in users {
         numbers.push(user.uid)?;
     }
-    numbers.sort()?;
-    Ok(doubled(numbers.as_slice()).map(|number| Misfit {
-        number,
-        fault: Fault::UserTwice,
-    }))
+    Ok(numbers)
 }
 
 /// Of numbers that ascend the first that stands there twice.
-fn doubled(numbers: &[u32]) -> Option<u32> {
-    match numbers.windows(2).find(|pair| pair[0] == pair[1]) {
-        Some(pair) => pair.first().copied(),
-        None => None,
+fn doubled(numbers: &[u32]) -> Option<u32>
+    ensures none { IfNone result (IsSorted nat_cmp numbers.now → IsDistinct nat_eq numbers.now) }
+{
+    for place in 1..numbers.len() {
+        if numbers[place - 1] == numbers[place] {
+            return Some(numbers[place]);
+        }
     }
+    None
 }
 
 /// A change's number, and its place among the changes.
 type Spot = (Ino, usize);
 
 /// The number that is there twice, or the directory that stands before that in which it stands.
-fn number_misfit(alloc: Global, changes: &[Change]) -> Result<Option<Misfit>, NoMemory> {
-    let spots = spots_of(alloc, changes)?;
-    if let Some(number) = doubled_spot(spots.as_slice()) {
+fn number_misfit(alloc: Global, changes: &[Change]) -> Result<Option<Misfit>, NoMemory>
+    ensures none { IfOk result (λ found. IfNone found (AreApart changes.now)) }
+{
+    if let Some(number) = doubled_number(alloc, changes)? {
         return Ok(Some(Misfit {
             number,
             fault: Fault::NumberTwice,
         }));
     }
+    order_misfit(alloc, changes)
+}
+
+/// The number that is there twice.
+fn doubled_number(alloc: Global, changes: &[Change]) -> Result<Option<Ino>, NoMemory>
+    ensures none { IfOk result (λ found. IfNone found (IsDistinct nat_eq (map (λ change. change.ino) changes.now))) }
+{
+    let mut numbers = numbers_of(alloc, changes)?;
+    numbers.sort()?;
+    Ok(doubled(numbers.as_slice()))
+}
+
+fn numbers_of(alloc: Global, changes: &[Change]) -> Result<Vec<Ino>, NoMemory>
+    ensures { IfOk result (λ numbers. numbers.items ≡ map (λ change. change.ino) changes.now) }
+{
+    let mut numbers: Vec<Ino> = Vec::new(alloc);
+    for change in changes {
+        numbers.push(change.ino)?;
+    }
+    Ok(numbers)
+}
+
+/// The directory that stands before that in which it stands.
+fn order_misfit(alloc: Global, changes: &[Change]) -> Result<Option<Misfit>, NoMemory> {
+    let spots = spots_of(alloc, changes)?;
     for (place, change) in changes.iter().enumerate() {
         if !is_in_order(spots.as_slice(), place, change) {
             return Ok(Some(fault_at(change, Fault::Order)));
@@ -203,13 +326,6 @@ fn spots_of(alloc: Global, changes: &[Change]) -> Result<Vec<Spot>, NoMemory> {
     }
     spots.sort()?;
     Ok(spots)
-}
-
-fn doubled_spot(spots: &[Spot]) -> Option<Ino> {
-    match spots.windows(2).find(|pair| pair[0].0 == pair[1].0) {
-        Some(pair) => pair.first().map(|spot| spot.0),
-        None => None,
-    }
 }
 
 /// Whether the change at that place is no directory, or stands behind that of the directory in which it comes to

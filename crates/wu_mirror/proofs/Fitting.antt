@@ -1,0 +1,178 @@
+-- What the checks of a batch find out: a batch in which nothing is wrong fits.
+use Rattle.std.proofs.Common.{◌≡◌, ◌≢◌, ℕ, ◌+◌, ◌<◌, ◌≤◌, List, [], ◌∷◌, map, length, get_or, refl, sym, ap, subst, Bool, true, false, cond}
+use Rattle.std.proofs.Common.{◌&&◌, ◌||◌, ◌==◌, not, eqb, nat_eq, nat_lt, arith, IsPermutation, IsSorted, nat_cmp, inl, inr, ⊎_elim}
+use Rattle.std.proofs.Common.{true≢false, zero-le, le_antisymm, ltb-false, Option, None, Some, is_some, Result, Ok, Err, IfOk, IfNone, ◌⊎◌}
+use Rattle.std.specs.Cmp.{nat_eq_equiv}
+use Rattle.std.specs.List.{AllByRecursion, IsDistinct, list_all}
+use Rattle.std.proofs.lemmas.Bool.{eqb-false, ne_eqb, false≢true}
+use Rattle.std.proofs.lemmas.List.Sorted.{IsNonDecreasingBy-from_sort, IsPermutation-sym}
+use Rattle.std.proofs.lemmas.Map.Keys.{IsDistinct-IsPermutation, IsDistinct-from_apart, IsDistinct-head, IsDistinct-tail}
+use Rattle.wu_access.specs.declared.UserRec.{UserRec}
+use Rattle.wu_tree.specs.declared.events.Kind.{Kind}
+use Rattle.wu_tree.specs.declared.events.Kind.TheVariants.{Directory}
+use Rattle.wu_tree.specs.FileSystems.{is_name}
+use Rattle.wu_mirror.specs.declared.batches.TheConstants.{CLOSED}
+use Rattle.wu_mirror.specs.declared.batches.Batch.{Batch}
+use Rattle.wu_mirror.specs.declared.batches.Change.{Change}
+use Rattle.wu_mirror.specs.declared.batches.Place.{Place}
+use Rattle.wu_mirror.specs.declared.checks.Fault.TheVariants.{Reserved, Root, ManyNames, Unnamed, Text, Name}
+use Rattle.wu_mirror.specs.Misfits.{Fits, IsPlace, IsSound}
+use Rattle.wu_mirror.specs.Faults.{fault_of, fault_of_names, fault_of_root, has_many_names, is_kept_directory, is_named, is_place, may_have_text}
+use Rattle.wu_mirror.specs.Moments.{AreApart, is_told}
+use Rattle.wu_mirror.specs.Plans.{is_empty}
+
+-- ---- tests
+both : (a b : Bool) → (a && b) ≡ true → (a ≡ true) × (b ≡ true)
+both true b h = (refl, h)
+both false b h = absurd (false≢true h)
+
+neither : (a b : Bool) → (a || b) ≡ false → (a ≡ false) × (b ≡ false)
+neither false b h = (refl, h)
+neither true b h = absurd (true≢false h)
+
+not_it : (a : Bool) → not a ≡ true → a ≡ false
+not_it false h = refl
+not_it true h = absurd (false≢true h)
+
+it_is : (a : Bool) → not a ≡ false → a ≡ true
+it_is true h = refl
+it_is false h = absurd (true≢false h)
+
+none_past : {X : Type 0} (b : Bool) (x : X) (o : Option X) → cond b (Some x) o ≡ None → (b ≡ false) × (o ≡ None)
+none_past false x o h = (refl, h)
+none_past true x o h = absurd (true≢false (ap is_some h))
+
+none_by : {X : Type 0} (b : Bool) (x : X) → cond b None (Some x) ≡ None → b ≡ true
+none_by true x h = refl
+none_by false x h = absurd (true≢false (ap is_some h))
+
+one_of : {X : Type 0} (b : Bool) (o p : Option X) → cond b o p ≡ None → (o ≡ None) ⊎ (p ≡ None)
+one_of true o p h = inl h
+one_of false o p h = inr h
+
+-- ---- numbers
+-- sorted numbers of which none is the next one's are distinct
+pub distinct_if : (xs : List ℕ) → ((k d : ℕ) → k + 1 < length xs → eqb (get_or xs k d) (get_or xs (k + 1) d) ≡ false) → IsSorted nat_cmp xs
+    → IsDistinct nat_eq xs
+distinct_if xs differ sorted =
+    let rises = IsNonDecreasingBy-from_sort (λ (x : ℕ). x) xs sorted in
+    IsDistinct-from_apart nat_eq xs (λ i j d l m.
+    let within : i + 1 < length xs = omega (arith, l, m) in
+    let up : get_or xs i d ≤ get_or xs (i + 1) d = rises i (i + 1) d (omega arith) within in
+    let far : get_or xs (i + 1) d ≤ get_or xs j d = rises (i + 1) j d (omega (arith, l)) m in
+    ne_eqb (get_or xs i d) (get_or xs j d) (λ e. eqb-false (get_or xs i d) (get_or xs (i + 1) d) (differ i d within)
+    (le_antisymm up (subst (λ (x : ℕ). get_or xs (i + 1) d ≤ x) (sym e) far))))
+
+pub distinct_before : (xs ys : List ℕ) → IsPermutation xs ys → IsDistinct nat_eq ys → IsDistinct nat_eq xs
+distinct_before xs ys p d = IsDistinct-IsPermutation nat_eq (λ x y. nat_eq_equiv.symm x y) ys xs (IsPermutation-sym xs ys p) d
+
+pub doubled_before : (xs ys : List ℕ) → IsPermutation xs ys → IsSorted nat_cmp ys → (o : Option ℕ)
+    → IfNone o (IsSorted nat_cmp ys → IsDistinct nat_eq ys)
+    → IfNone o (IsDistinct nat_eq xs)
+doubled_before xs ys p s None h = distinct_before xs ys p (h s)
+doubled_before xs ys p s (Some n) h = tt
+
+each_apart : (n : ℕ) (changes : List Change) → AllByRecursion (λ y. nat_eq n y ≡ false) (map (λ change. change.ino) changes)
+    → AllByRecursion (λ other. other.ino ≢ n) changes
+each_apart n [] a = tt
+each_apart n (other ∷ changes) a = (λ e. eqb-false n other.ino a.0 (sym e), each_apart n changes a.1)
+
+pub apart_if : (changes : List Change) → IsDistinct nat_eq (map (λ change. change.ino) changes) → AreApart changes
+apart_if [] d = tt
+apart_if (change ∷ changes) d = (
+  each_apart change.ino changes (IsDistinct-head nat_eq change.ino (map (λ change. change.ino) changes) d),
+  apart_if changes (IsDistinct-tail nat_eq change.ino (map (λ change. change.ino) changes) d),
+)
+
+-- ---- one change
+place_if : (place : Place) → is_place place ≡ true → IsPlace place
+place_if place h =
+    let a = both (not (place.parent == CLOSED)) (not (place.parent == 0) && is_name place.name) h in
+    let b = both (not (place.parent == 0)) (is_name place.name) a.1 in (
+      eqb-false place.parent CLOSED (not_it (place.parent == CLOSED) a.0),
+      eqb-false place.parent 0 (not_it (place.parent == 0) b.0),
+      b.1,
+    )
+
+places_if : (places : List Place) → list_all is_place places ≡ true → AllByRecursion IsPlace places
+places_if [] h = tt
+places_if (place ∷ places) h =
+    let a = both (is_place place) (list_all is_place places) h in
+    (place_if place a.0, places_if places a.1)
+
+short_if : {X : Type 0} (xs : List X) → is_empty xs ≡ true → length xs ≤ 1
+short_if [] h = zero-le
+short_if (x ∷ xs) h = absurd (false≢true h)
+
+few_names : (kind : Kind) (going coming : ℕ) → has_many_names kind going coming ≡ false → kind ≡ Directory → going ≤ 1
+few_names kind going coming h e =
+    let d : has_many_names Directory going coming ≡ false = subst (λ (k : Kind). has_many_names k going coming ≡ false) e h in
+    ltb-false 1 going (neither (nat_lt 1 going) (nat_lt 1 coming) d).0
+
+once_if : (change : Change)
+    → cond (change.ino == 1) (fault_of_root change) (fault_of_names change.kind change.fate (length change.going) (length change.coming)) ≡ None
+    → change.kind ≡ Directory → length change.going ≤ 1
+once_if change h e =
+    let names = fault_of_names change.kind change.fate (length change.going) (length change.coming) in
+    ⊎_elim
+    (λ r.
+    let a = none_by (is_kept_directory change.kind change.fate && (is_empty change.going && is_empty change.coming)) Root r in
+    let b = both (is_kept_directory change.kind change.fate) (is_empty change.going && is_empty change.coming) a in
+    short_if change.going (both (is_empty change.going) (is_empty change.coming) b.1).0)
+    (λ n. few_names change.kind (length change.going) (length change.coming)
+    (none_past (has_many_names change.kind (length change.going) (length change.coming)) ManyNames
+    (cond (is_named change.kind change.fate (length change.going) (length change.coming)) None (Some Unnamed)) n).0 e)
+    (one_of (change.ino == 1) (fault_of_root change) names h)
+
+pub sound_if : (change : Change) → fault_of change ≡ None → IsSound change
+sound_if change h =
+    let last = cond (change.ino == 1) (fault_of_root change)
+    (fault_of_names change.kind change.fate (length change.going) (length change.coming)) in
+    let third = cond (not (list_all is_place change.going) || not (list_all is_place change.coming)) (Some Name) last in
+    let second = cond (change.has_new_text && not (may_have_text change.kind change.fate)) (Some Text) third in
+    let a = none_past (change.ino == 0 || change.ino == CLOSED) Reserved second h in
+    let b = none_past (change.has_new_text && not (may_have_text change.kind change.fate)) Text third a.1 in
+    let c = none_past (not (list_all is_place change.going) || not (list_all is_place change.coming)) Name last b.1 in
+    let n = neither (change.ino == 0) (change.ino == CLOSED) a.0 in
+    let p = neither (not (list_all is_place change.going)) (not (list_all is_place change.coming)) c.0 in
+    record {
+      number = eqb-false change.ino 0 n.0;
+      apart = eqb-false change.ino CLOSED n.1;
+      going = places_if change.going (it_is (list_all is_place change.going) p.0);
+      coming = places_if change.coming (it_is (list_all is_place change.coming) p.1);
+      once = once_if change c.1;
+    }
+
+-- ---- the batch
+root_if : (users : List UserRec) (told : Bool) → (is_empty users || told) ≡ true → (told ≡ true) ⊎ (users ≡ [])
+root_if [] told h = inr refl
+root_if (user ∷ users) told h = inl h
+
+each_sound : (changes : List Change) → AllByRecursion (λ change. fault_of change ≡ None) changes → AllByRecursion IsSound changes
+each_sound [] a = tt
+each_sound (change ∷ changes) a = (sound_if change a.0, each_sound changes a.1)
+
+pub fits_if : (batch : Batch) → AllByRecursion (λ change. fault_of change ≡ None) batch.changes
+    → IsDistinct nat_eq (map (λ user. user.uid) batch.users) → (is_empty batch.users || is_told batch.changes 1) ≡ true
+    → AreApart batch.changes
+    → Fits batch
+fits_if batch all users root apart = record {
+  changes = each_sound batch.changes all;
+  apart = apart;
+  root = root_if batch.users (is_told batch.changes 1) root;
+  users = users;
+}
+
+pub none_unless : {T : Type 0} (o : Option T) → ((x : T) → o ≡ Some x → ⊥) → o ≡ None
+none_unless None n = refl
+none_unless (Some x) n = absurd (n x refl)
+
+pub if_none : {P T : Type 0} (o : Option T) → ((x : T) → o ≡ Some x → ⊥) → IfNone o P → P
+if_none None n p = p
+if_none (Some x) n p = absurd (n x refl)
+
+-- what holds in any case is so where nothing is found
+pub in_any : {P T E : Type 0} → P → (r : Result (Option T) E) → IfOk r (λ found. IfNone found P)
+in_any p (Ok None) = p
+in_any p (Ok (Some x)) = tt
+in_any p (Err e) = tt
