@@ -11,6 +11,7 @@ mod writing;
 ghost use Rattle.std.specs.Prelude.{◌≡◌, [], OnOk};
 ghost use Rattle.std.specs.Io.KnownBytes.{Appends};
 ghost use Rattle.std.specs.List.{flat_map};
+ghost use Rattle.wu_mirror.specs.Misfits.{Fits};
 ghost use Rattle.wumpus_plan.specs.Lines.{Passes, answer_of, line_of};
 
 use crate::lines::Lines;
@@ -52,9 +53,10 @@ fn serve(rt: &HostRuntime) -> Result<(), Stop> {
 }
 
 /// Writes the plan of a batch whose last line is that one: a header with the number of events before the texts and
-/// of those after them, and a line for each.
+/// of those after them, and a line for each. A batch that doesn't fit has none.
 fn answer<W: Write>(alloc: Global, out: &mut W, line: u64, batch: &Batch) -> Result<(), Stop>
-    ensures { OnOk result (Appends (W.contents out.old) (W.contents out.new) (answer_of batch.now)) }
+    ensures written { OnOk result (Appends (W.contents out.old) (W.contents out.new) (answer_of batch.now)) }
+    ensures fits { OnOk result (Fits batch.now) }
 {
     if let Some(Misfit { number, fault }) = find_misfit(alloc, batch)? {
         return Err(Stop::Batch {

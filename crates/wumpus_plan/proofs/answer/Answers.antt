@@ -7,8 +7,8 @@ use Rattle.wumpus_plan.specs.Lines.{Passes, header_of, line_of}
 use Rattle.wumpus_plan.proofs.Pieces.{appends_kept, passes_both, passes_ended}
 use Rattle.wumpus_plan.proofs.answer.Goals as goal
 
-pub returns : goal.returns
-returns g c =
+pub returns-clause-written : goal.returns-clause-written
+returns-clause-written g c =
     let batch : Batch = c.args.batch.now in
     let header : List ℕ = header_of (length (head_of batch)) (length (tail_of batch)) in
     let before : List ℕ = flat_map line_of (head_of batch) in
