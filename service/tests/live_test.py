@@ -8,13 +8,15 @@ from unittest import mock
 
 from harness import Score, options
 
-from wumpus.live import calls, emptier, waiting  # isort: skip
+from wumpus.live import calls, directories, emptier, waiting  # isort: skip
+from wumpus.live.directories import Directories  # isort: skip
 from wumpus.live.emptier import Kept  # isort: skip
 from wumpus.live.events import Told, Unreadable, key_of, split, told_in  # isort: skip
 from wumpus.live.reader import events_in  # isort: skip
+from wumpus.live.replaced import Replaced  # isort: skip
 from wumpus.live.waiting import Item, Waiting  # isort: skip
 from wumpus.mirror.ledger import less, narrowed  # isort: skip
-from wumpus.mirror.nodes import Node, Rights  # isort: skip
+from wumpus.mirror.nodes import ROOT, Node, Rights, Tree  # isort: skip
 from wumpus.service.merging import Merging  # isort: skip
 
 PLAIN = Rights(0o644, 5, 20)
@@ -119,6 +121,48 @@ def persons(score: Score) -> None:
     score.check(not line.persons and line.seconds() is None, f"nothing is left: {line.persons}")
 
 
+def small_tree(place: int = 4) -> Tree:
+    """Directories 4 of user 5 and 5 of all, a file 7 in 4, and a directory 6 at some place."""
+    made = ((ROOT, 0o755, 0), (4, 0o755, 5), (5, 0o1777, 0), (6, 0o755, 5))
+    nodes = {
+        number: Node(number, True, Rights(mode, owner, 0), b"", 100 + number, 1, 0)
+        for number, mode, owner in made
+    }
+    nodes[7] = Node(7, False, PLAIN, b"", 107, 1, 0)
+    entries: dict[int, dict[bytes, int]] = {ROOT: {b"a": 4, b"b": 5}, 4: {b"f": 7}, 5: {}, 6: {}}
+    entries[place][b"d"] = 6
+    return Tree(nodes, entries)
+
+
+def moved(score: Score) -> None:
+    """A directory that a walk saw at another place is looked at once more when that was fed."""
+    known = Directories(mock.Mock(), (b"/",))
+    with mock.patch.object(directories, "_Taking") as taking:
+        taking.return_value.differing = []
+        score.check(known.renew(small_tree()) == [], "at first")
+        score.check(known.renew(small_tree()) == [], "where nothing moved")
+        score.check(known.renew(small_tree(5)) == [6], "one that moved")
+
+
+def replaced(score: Score) -> None:
+    """Files at the names of others: the last one of each name, until a tree has it there."""
+    tree, names = small_tree(), Replaced()
+    names.put((4, b"f"), 200)
+    score.check(names.nodes_of(200, tree) == {7}, "which node it concerns")
+    names.renew(tree)
+    score.check(names.nodes_of(200, tree) == {7}, "a walk that saw the one of before")
+    names.put((4, b"f"), 201)
+    score.check((names.nodes_of(200, tree), names.nodes_of(201, tree)) == (set(), {7}), "one each")
+    tree.nodes[8] = Node(8, False, PLAIN, b"", 201, 1, 0)
+    tree.entries[4][b"f"] = 8
+    names.renew(tree)
+    score.check(not names.at and not names.names, "a walk that saw it")
+    names.put((4, b"f"), 202)
+    del tree.entries[4][b"f"]
+    names.renew(tree)
+    score.check(not names.at and not names.names, "a name that is gone")
+
+
 def merged(score: Score) -> None:
     """A save of what was merged saves what was taken away, too."""
     saved = mock.Mock()
@@ -155,7 +199,9 @@ def main() -> int:
     """Runs the test; it needs no program."""
     options(__doc__ or "").parse_args()
     score = Score("live")
-    parts: tuple[Callable[[Score], None], ...] = (events, kept, persons, merged, rights)
+    parts: tuple[Callable[[Score], None], ...] = (
+        events, kept, persons, moved, replaced, merged, rights
+    )  # fmt: skip
     for part in parts:
         part(score)
     return score.end()

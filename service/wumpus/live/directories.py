@@ -13,6 +13,7 @@ from ..mirror.mounts import GOOD, Mounts
 from ..mirror.nodes import ROOT, Identity, Tree, device_of, identity_of
 from .calls import handle_of, open_handle, open_here
 from .events import handle_in, key_of, system_in
+from .replaced import Replaced
 from .watcher import NoWatch
 
 PLACE = os.O_PATH | os.O_NOFOLLOW | os.O_CLOEXEC  # O_DIRECTORY would mount what is automatic
@@ -52,8 +53,7 @@ class Directories:
     keys: dict[int, tuple[bytes, Identity]] = field(default_factory=dict)
     places: dict[int, tuple[int, bytes]] = field(default_factory=dict)  # of directories alone
     by_identity: dict[Identity, int] = field(default_factory=dict)
-    # Of files that were found at the names of others since the last walk: the nodes known there.
-    replacing: dict[Identity, set[int]] = field(default_factory=dict)
+    replaced: Replaced = field(default_factory=Replaced)  # is used by who has the batches' lock
     systems: dict[int, System] = field(default_factory=dict)  # by device
     whole: set[int] = field(default_factory=set)  # devices of which not only ways are wanted
     mounts: Mounts = field(default_factory=Mounts)
@@ -70,9 +70,9 @@ class Directories:
         """The directory with this handle."""
         return self.by_key.get(key)
 
-    def nodes_of(self, identity: Identity) -> set[int]:
+    def nodes_of(self, identity: Identity, tree: Tree) -> set[int]:
         """The nodes whose rights are to be no more than those of a file, or a directory."""
-        found = set(self.replacing.get(identity, ()))
+        found = self.replaced.nodes_of(identity, tree)
         number = self.by_identity.get(identity)
         return found if number is None else found | {number}
 
@@ -87,14 +87,16 @@ class Directories:
     # ---- what a walk found
 
     def renew(self, tree: Tree) -> list[int]:
-        """Takes over a tree's names: the directories that may not be as it says."""
+        """Takes over a tree's names: the directories that may not be as it says.
+
+        One that has another place is among them: it may have left that before the tree was fed.
+        """
         places: dict[int, tuple[int, bytes]] = {}
         for parent, name, child in tree.links():
             if child in tree.entries:
                 places[child] = (parent, name)
-        self.places = places
+        before, self.places = self.places, places
         self.by_identity = {node.identity: number for number, node in tree.nodes.items()}
-        self.replacing = {}
         ways = self._ways(tree)
         devices = {device_of(tree.nodes[one].identity) for one in tree.entries.keys() - ways}
         self.bad.clear()
@@ -103,7 +105,8 @@ class Directories:
             self._forget(number)
         taking = _Taking(self, tree)
         taking.run()
-        return taking.differing
+        moved = [one for one, place in places.items() if before.get(one, place) != place]
+        return [*taking.differing, *moved]
 
     def _ways(self, tree: Tree) -> set[int]:
         """The directories above the roots."""

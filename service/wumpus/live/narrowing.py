@@ -126,6 +126,7 @@ class Narrowing:
             return
         differing = self.directories.renew(self.mirror.state.tree)
         with self.ledger:
+            self.directories.replaced.renew(self.mirror.state.tree)
             for number in differing:
                 self._put(number, Item(number))
         self._wake()

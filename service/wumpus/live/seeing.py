@@ -48,7 +48,7 @@ class Seeing:
             return []
         try:
             status = os.fstat(descriptor)
-            numbers = self.directories.nodes_of(identity_of(status))
+            numbers = self.directories.nodes_of(identity_of(status), self.tree)
             nodes = [self.tree.nodes[number] for number in numbers if number in self.tree.nodes]
             return [(node.number, self._rights(node, descriptor, status)) for node in nodes]
         finally:
@@ -135,7 +135,7 @@ class Seeing:
                 if node.is_directory:
                     return [(node.number, NOBODY)]
                 # What becomes less of the other one concerns this node from now on, too.
-                self.directories.replacing.setdefault(identity, set()).add(node.number)
+                self.directories.replaced.put((directory, name), identity)
             return [(node.number, self._rights(node, descriptor, os.fstat(descriptor)))]
         finally:
             os.close(descriptor)
