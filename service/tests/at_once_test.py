@@ -20,11 +20,14 @@ from pathlib import Path
 
 from harness import Score, needs_program, needs_root, options
 from kernel import User, become
-from service_test import as_user
-from stage import ACCESS, ANN, BOB, EVE, NONE, SOON, Stage, alone, done, goes, on_stage  # fmt: skip
+from service_test import as_user, wait_for
+from stage import (  # fmt: skip
+    ACCESS, ANN, BOB, EVE, NONE, SOON, Stage, alone, done, goes, make_home, on_stage
+)
 
 from wumpus.shared.program import die_with_parent  # isort: skip
 
+BESIDE = 2.0  # seconds, where another account has the kernel tell of as much as it can
 _libc = ctypes.CDLL(None, use_errno=True)
 
 
@@ -115,6 +118,56 @@ def flood(stage: Stage, score: Score) -> None:
         print(f"at_once: beside eve {middle:.0f} ms, at most {most:.0f} ms", flush=True)
     lost = stage.told().get("live", {}).get("lost")
     print(f"at_once: events were lost {lost} times", flush=True)
+
+
+def shared(stage: Stage, score: Score) -> None:
+    """Eve changes very many new files where root and ann let her make some: they needn't wait."""
+    home = stage.tree / "ann"
+    places = [stage.tree / "shared", stage.tree / "also", home / "shared"]
+    for place in places:
+        place.mkdir()
+        place.chmod(0o1777)
+    os.chown(places[2], ANN.number, ANN.number)
+    files = [(0, stage.tree / f"root{number}") for number in range(4)]
+    for _, file in files:
+        file.write_text("secret\n")
+    files += [(ANN.number, home / f"folder{30 + one}" / "inner" / "secret") for one in range(4)]
+    stage.begin()
+    score.check(stage.rests(), "a turn")
+    child = begin_as(EVE, partial(changing, places))
+    try:
+        wait_for((stage.tree / "shared" / "done").exists, 60.0)
+        time.sleep(2.0)
+        for owner, file in files:
+            score.check(stage.sees(BOB, file), f"{file} isn't there before")
+            file.chmod(0o600)
+            taken = goes(stage, BOB, file, BESIDE)
+            score.check(taken < BESIDE, f"beside eve's files a file of {owner}: {taken:.1f} s")
+    finally:
+        os.kill(child, signal.SIGKILL)
+        os.waitpid(child, 0)
+
+
+def changing(places: list[Path]) -> None:
+    """Makes new files, and changes their modes without an end."""
+    files = [os.fsencode(place / f"{number}") for place in places for number in range(19_000)]
+    for file in files:
+        os.close(os.open(file, os.O_CREAT | os.O_WRONLY, 0o644))
+    (places[0] / "done").touch()
+    mode = 0o600
+    while True:
+        mode ^= 0o044
+        for file in files:
+            os.chmod(file, mode)
+
+
+def shared_alone(stage: Stage, score: Score) -> None:
+    """The same, on a stage of its own: a walk during it would find what is lost."""
+    make_home(stage.tree)
+    try:
+        shared(stage, score)
+    finally:
+        stage.finish()
 
 
 def begin_as(user: User, what: Callable[[], None]) -> int:
@@ -279,6 +332,7 @@ def main() -> int:
         "helper": lambda: alone(program, score, helper),
         "ways": lambda: on_stage(program, score, ways),
         "flood": lambda: on_stage(program, score, flood),
+        "shared": lambda: alone(program, score, shared_alone),
         "hanging": lambda: on_stage(program, score, hanging),
         "systems": lambda: alone(program, score, other_systems),
         "off": lambda: alone(

@@ -12,6 +12,7 @@ from wumpus.live import calls, directories, emptier, waiting  # isort: skip
 from wumpus.live.directories import Directories  # isort: skip
 from wumpus.live.emptier import Kept  # isort: skip
 from wumpus.live.events import Told, Unreadable, key_of, split, told_in  # isort: skip
+from wumpus.live.narrowing import ALONE, OUTSIDE, Narrowing  # isort: skip
 from wumpus.live.reader import events_in  # isort: skip
 from wumpus.live.replaced import Replaced  # isort: skip
 from wumpus.live.waiting import Item, Waiting  # isort: skip
@@ -163,6 +164,39 @@ def replaced(score: Score) -> None:
     score.check(not names.at and not names.names, "a name that is gone")
 
 
+def lines(score: Score) -> None:
+    """To whom events count, and what comes where there is no room for one."""
+    mirror = mock.Mock()
+    mirror.state.tree = small_tree()
+    beside = Narrowing(mirror, mock.Mock(), mock.Mock(), int)
+    known = mock.Mock()
+    place, other, file = (key_of(9, struct.pack("=Ii8s", 8, 1, one)) for one in (b"a", b"b", b"f"))
+    known.number_of = {place: 4, other: 5}.get
+
+    def told(what: int, *pieces: bytes) -> None:
+        beside._sort([(what, b"".join(pieces))], known)
+
+    def waits(person: int) -> list[Item]:
+        found = beside.waiting.persons.pop(person, None)
+        return [] if found is None else list(found.items)
+
+    told(calls.FAN_ATTRIB, piece(2, other, b"new"), piece(1, file))
+    score.check(waits(0) == [] and waits(OUTSIDE) == [Item(file=file)], "where others make names")
+    told(calls.FAN_ATTRIB, piece(2, place, b"new"), piece(1, file))
+    score.check(waits(5) == [Item(file=file)], "where the owner alone does")
+    mirror.state.tree.nodes[4].changed = 0
+    told(calls.FAN_ATTRIB, piece(2, place, b"new"), piece(1, file))
+    score.check(waits(OUTSIDE) == [Item(file=file)], "where it isn't known who does")
+    told(calls.FAN_DELETE, piece(2, place, b"f"))
+    told(calls.FAN_ATTRIB, piece(2, place, b"."))
+    score.check(waits(5) == [Item(4, b"f"), Item(4)], "what is known by its name")
+    with mock.patch.object(waiting, "AT_MOST", 0):
+        told(calls.FAN_ATTRIB, piece(1, file))
+        score.check(waits(ALONE) == [] and not beside.is_lost, "a file alone")
+        told(calls.FAN_DELETE, piece(2, place, b"f"))
+        score.check(beside.is_lost and beside.counts.lost == 1, "a walk comes for what is lost")
+
+
 def merged(score: Score) -> None:
     """A save of what was merged saves what was taken away, too."""
     saved = mock.Mock()
@@ -200,7 +234,7 @@ def main() -> int:
     options(__doc__ or "").parse_args()
     score = Score("live")
     parts: tuple[Callable[[Score], None], ...] = (
-        events, kept, persons, moved, replaced, merged, rights
+        events, kept, persons, moved, replaced, lines, merged, rights
     )  # fmt: skip
     for part in parts:
         part(score)

@@ -32,7 +32,9 @@ ROUND_SECONDS = 0.03  # in which is looked before what became less is fed
 BETWEEN = 0.05  # seconds from one batch to the next
 SAVED_AFTER = 10.0  # seconds in which what was fed is saved
 UNSAVED_MOST = 200  # batches that may be unsaved; the service keeps a few more
-OUTSIDE = -1  # the person of what is told of no known directory
+OUTSIDE = -1  # the person of what is told of no known name, where others may have made it
+ALONE = -2  # of what is told of a file alone, as when it has another count of names
+OTHERS = 0o022  # the modes of a directory by which not its owner alone makes names in it
 END_SECONDS = 5.0
 WALKS_APART = 10.0  # seconds from one walk for what was lost to the next
 SWITCH_SECONDS = 0.001  # that a thread waits for another one, as for a walk's, at most
@@ -128,7 +130,7 @@ class Narrowing:
         with self.ledger:
             self.directories.replaced.renew(self.mirror.state.tree)
             for number in differing:
-                self._put(number, Item(number))
+                self._put(self._person_of(number), Item(number))
         self._wake()
 
     def check(self) -> None:
@@ -269,17 +271,35 @@ class Narrowing:
                 continue
             directory = directories.number_of(key)
             names = tree.entries.get(directory, {}) if directory is not None else {}
-            number = names.get(name, directory)
-            person = OUTSIDE if number is None else self._person_of(number)
+            known = directory if name == ITSELF else names.get(name)
+            person = self._whose(directory, known) if key else ALONE
             if directory is not None and name == ITSELF:
-                self.waiting.put(person, Item(directory))
+                self._put(person, Item(directory))
             elif what & OF_NAMES and name in names:
-                self.waiting.put(person, Item(directory or 0, name))
+                self._put(person, Item(directory or 0, name))
             if what & calls.FAN_ATTRIB and file:
-                self.waiting.put(person, Item(file=file))
+                self._put(person, Item(file=file))
 
-    def _put(self, number: int, item: Item) -> None:
-        self.waiting.put(self._person_of(number), item)
+    def _put(self, person: int, item: Item) -> None:
+        """Has something wait. Where there is no room for it, a walk has to come.
+
+        What is told of a file alone is told of its count of names, by which nobody has less.
+        """
+        if not self.waiting.put(person, item) and person != ALONE:
+            self.counts.lost += not self.is_lost
+            self.is_lost = True
+
+    def _whose(self, directory: int | None, known: int | None) -> int:
+        """The person to whom an event counts: the owner of the known node, or of the directory.
+
+        Where others may make names in a directory its owner mustn't wait for them.
+        """
+        if known is not None:
+            return self._person_of(known)
+        node = None if directory is None else self.mirror.state.tree.nodes.get(directory)
+        if node is None or not node.changed or node.rights.mode & OTHERS:
+            return OUTSIDE
+        return self.person_of(node.rights.owner)
 
     def _person_of(self, number: int) -> int:
         node = self.mirror.state.tree.nodes.get(number)
