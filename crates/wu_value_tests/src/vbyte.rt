@@ -1,27 +1,15 @@
-//! Compares the answers of the calls on numbers and blocks in bytes with those of the table on
-//! standard input.
-#![tactic(auto)]
-
+//! Calls on numbers and blocks in bytes.
 use std::alloc::Global;
 use std::io;
 use wu_rows::{
-    NoAnswer, ascending_numbers, bytes, bytes_text, compare, flag_text, number, numbers_text,
-    plain_text,
+    NoAnswer, ascending_numbers, bytes, bytes_text, flag_text, number, numbers_text, plain_text,
 };
 use wu_vbyte::{
     BLOCK_LEN, is_block, next_large, next_number, put_block, put_number, take_block, take_number,
 };
 
-fn main(rt: HostRuntime) -> io::Result<()> {
-    compare(
-        &rt,
-        |alloc, _, call, arguments| answer(alloc, call, arguments),
-    )?;
-    compare_powers(&rt)
-}
-
 /// The answer of the call to the arguments.
-fn answer(alloc: Global, call: &str, arguments: &[&str]) -> Result<String, NoAnswer> {
+pub fn answer(alloc: Global, call: &str, arguments: &[&str]) -> Result<String, NoAnswer> {
     match call {
         "put_number" => written_number(alloc, arguments),
         "take_number" => number_read(alloc, arguments),
@@ -102,7 +90,7 @@ fn numbers_given(given: &[&str]) -> Result<[u64; 4], NoAnswer> {
 }
 
 /// Writes numbers beside each power of two and reads them back, and prints how many are the same.
-fn compare_powers(rt: &(impl Print + AllocGlobal)) -> io::Result<()> {
+pub fn compare_powers(rt: &(impl Print + AllocGlobal)) -> io::Result<()> {
     let mut numbers = 0u64;
     let mut same = 0u64;
     for place in 0..64u32 {

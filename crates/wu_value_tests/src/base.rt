@@ -1,24 +1,13 @@
-//! Compares the answers of the calls on byte strings and lists with those of the table on standard
-//! input.
-#![tactic(auto)]
-
+//! Calls on byte strings and lists.
 use std::alloc::Global;
-use std::io;
 use wu_base::{Bytes, NoMemory, Sequence, Trouble, is_among};
 use wu_rows::{
-    NoAnswer, ascending_numbers, bytes, bytes_text, compare, flag_text, number_text, numbers,
-    numbers_text, order_text, plain_text,
+    NoAnswer, ascending_numbers, bytes, bytes_text, flag_text, number_text, numbers, numbers_text,
+    order_text, plain_text,
 };
 
-fn main(rt: HostRuntime) -> io::Result<()> {
-    compare(
-        &rt,
-        |alloc, _, call, arguments| answer(alloc, call, arguments),
-    )
-}
-
 /// The answer of the call to the arguments.
-fn answer(alloc: Global, call: &str, arguments: &[&str]) -> Result<String, NoAnswer> {
+pub fn answer(alloc: Global, call: &str, arguments: &[&str]) -> Result<String, NoAnswer> {
     match call {
         "Bytes::cmp" => order_of_bytes(alloc, arguments),
         "Bytes::eq" => equality_of_bytes(alloc, arguments),

@@ -1,23 +1,12 @@
-//! Compares the answers of the calls on the fields of a line with those of the table on standard
-//! input.
-#![tactic(auto)]
-
+//! Calls on the fields of a line.
 use std::alloc::Global;
-use std::io;
 use wu_fields::{put_decimal, put_field, read_decimal, read_octal_mode, split_fields};
 use wu_rows::{
-    NoAnswer, bytes, bytes_text, compare, list_text, number, number_text, optional_text, plain_text,
+    NoAnswer, bytes, bytes_text, list_text, number, number_text, optional_text, plain_text,
 };
 
-fn main(rt: HostRuntime) -> io::Result<()> {
-    compare(
-        &rt,
-        |alloc, _, call, arguments| answer(alloc, call, arguments),
-    )
-}
-
 /// The answer of the call to the arguments.
-fn answer(alloc: Global, call: &str, arguments: &[&str]) -> Result<String, NoAnswer> {
+pub fn answer(alloc: Global, call: &str, arguments: &[&str]) -> Result<String, NoAnswer> {
     match (call, arguments) {
         ("split_fields", [line]) => split(alloc, line),
         ("put_field", [field]) => written_field(alloc, field),

@@ -1,20 +1,10 @@
-//! Compares what is told of the scripts of numbers with the table on standard input.
-#![tactic(auto)]
-
+//! What is told of the scripts of numbers.
 use std::alloc::Global;
-use std::io;
 use wu_demo::make_script;
-use wu_rows::{NoAnswer, bytes_text, compare, flag_text, number, number_text};
-
-fn main(rt: HostRuntime) -> io::Result<()> {
-    compare(
-        &rt,
-        |alloc, _, call, arguments| answer(alloc, call, arguments),
-    )
-}
+use wu_rows::{NoAnswer, bytes_text, flag_text, number, number_text};
 
 /// The answer of the call to the arguments.
-fn answer(alloc: Global, call: &str, arguments: &[&str]) -> Result<String, NoAnswer> {
+pub fn answer(alloc: Global, call: &str, arguments: &[&str]) -> Result<String, NoAnswer> {
     match (call, arguments) {
         ("make_script", [of, asked]) => told(alloc, of, asked),
         _ => Err(NoAnswer::BadRow),

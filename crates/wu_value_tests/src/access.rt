@@ -1,25 +1,15 @@
-//! Compares the answers of the access check with those of the table on standard input.
-#![tactic(auto)]
-
+//! Answers of the access check.
 ghost use Rattle.std.specs.Prelude.{IfOk};
 ghost use Rattle.std.specs.Ordering.{nat_cmp};
 ghost use Rattle.std.specs.List.Sorted.{IsStrictlySortedBy};
 
 use std::alloc::Global;
-use std::io;
 use wu_access::{Acl, AclEntry, Perm, UserRec, Want, allows, allows_by_groups};
 use wu_base::{Sequence, sorted_once};
-use wu_rows::{NoAnswer, compare, flag_text, small_number, small_numbers};
-
-fn main(rt: HostRuntime) -> io::Result<()> {
-    compare(
-        &rt,
-        |alloc, _, call, arguments| answer(alloc, call, arguments),
-    )
-}
+use wu_rows::{NoAnswer, flag_text, small_number, small_numbers};
 
 /// The answer of the call to the arguments.
-fn answer(alloc: Global, call: &str, arguments: &[&str]) -> Result<String, NoAnswer> {
+pub fn answer(alloc: Global, call: &str, arguments: &[&str]) -> Result<String, NoAnswer> {
     let [uid, groups, owner, group, mode, want, entries @ ..] = arguments else {
         return Err(NoAnswer::BadRow);
     };
