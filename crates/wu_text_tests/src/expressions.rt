@@ -1,22 +1,12 @@
-//! Compares what is read and printed of expressions with the table on standard input.
-#![tactic(auto)]
-
+//! What is read and printed of expressions.
 use std::alloc::Global;
-use std::io;
 use wu_gcl::{
     Expr, ExprFault, Tag, each_text_is_read, one_reading, parse, print, tag_bytes, terms_of,
 };
-use wu_rows::{NoAnswer, bytes, bytes_text, compare, list_text, number, plain_text};
-
-fn main(rt: HostRuntime) -> io::Result<()> {
-    compare(
-        &rt,
-        |alloc, _, call, arguments| answer(alloc, call, arguments),
-    )
-}
+use wu_rows::{NoAnswer, bytes, bytes_text, list_text, number, plain_text};
 
 /// The answer of the call to the arguments.
-fn answer(alloc: Global, call: &str, arguments: &[&str]) -> Result<String, NoAnswer> {
+pub fn answer(alloc: Global, call: &str, arguments: &[&str]) -> Result<String, NoAnswer> {
     match call {
         "print" => printed(alloc, arguments),
         "parse" => outcome_asked(alloc, arguments),

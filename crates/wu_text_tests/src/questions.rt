@@ -1,22 +1,12 @@
-//! Compares which questions and answers are equal with the table on standard input.
-#![tactic(auto)]
-
+//! Which questions and answers are equal.
 use std::alloc::Global;
-use std::io;
 use wu_ask::{Answered, Ask, Query, RankLine, TermLine};
 use wu_base::{Bytes, NoMemory, Sequence};
 use wu_gcl::{Expr, parse};
-use wu_rows::{NoAnswer, compare, flag_text};
-
-fn main(rt: HostRuntime) -> io::Result<()> {
-    compare(
-        &rt,
-        |alloc, _, call, arguments| answer(alloc, call, arguments),
-    )
-}
+use wu_rows::{NoAnswer, flag_text};
 
 /// The answer of the call to the arguments.
-fn answer(alloc: Global, call: &str, arguments: &[&str]) -> Result<String, NoAnswer> {
+pub fn answer(alloc: Global, call: &str, arguments: &[&str]) -> Result<String, NoAnswer> {
     match (call, arguments) {
         ("Query::eq", [left, right]) => {
             let equal = query_named(alloc, left)? == query_named(alloc, right)?;

@@ -1,7 +1,7 @@
 use Rattle.std.proofs.Common.{rules}
 use Rattle.std.proofs.lemmas.List.Sorted.{IsNonDecreasingBy-from_sort_by_key}
 use Rattle.wu_base.specs.declared.addresses.Range.{Range}
-use Rattle.wu_terms_tests.proofs.frames_counted.Goals as goal
+use Rattle.wu_text_tests.proofs.terms.frames_counted.Goals as goal
 
 pub files_with-requires-clause-order : goal.files_with-requires-clause-order
 files_with-requires-clause-order c =

@@ -1,28 +1,16 @@
-//! Compares snippets with those of the table on standard input.
-#![tactic(auto)]
-
-mod extents;
-
+//! Snippets.
 ghost use Rattle.std.specs.Prelude.{◌≤◌, All, length};
 ghost use Rattle.wu_base.specs.declared.limits.TheConstants.{TEXT_MAX};
 ghost use Rattle.wu_snip.specs.Snippets.{IsWithin};
 
 use crate::extents::{are_ascending, are_within, extent, extents, is_within};
 use std::alloc::Global;
-use std::io;
 use wu_base::{Extent, NoMemory, TEXT_MAX};
-use wu_rows::{NoAnswer, bytes, bytes_text, compare, plain_text};
+use wu_rows::{NoAnswer, bytes, bytes_text, plain_text};
 use wu_snip::{Snip, snippet, snippets};
 
-fn main(rt: HostRuntime) -> io::Result<()> {
-    compare(
-        &rt,
-        |alloc, _, call, arguments| answer(alloc, call, arguments),
-    )
-}
-
 /// The answer of the call to the arguments.
-fn answer(alloc: Global, call: &str, arguments: &[&str]) -> Result<String, NoAnswer> {
+pub fn answer(alloc: Global, call: &str, arguments: &[&str]) -> Result<String, NoAnswer> {
     match (call, arguments) {
         ("snippet", [text, place]) => of_one(alloc, text, place),
         ("snippets", [text, places]) => of_several(alloc, text, places),

@@ -2,7 +2,7 @@ use Rattle.std.proofs.Common.{take_all, get_or, sym, rules}
 use Rattle.std.proofs.lemmas.List.Elements.{All-more, All-same}
 use Rattle.wu_base.specs.declared.addresses.Extent.{Extent}
 use Rattle.wu_snip.specs.Snippets.{IsWithin}
-use Rattle.wu_snip_tests.proofs.extents.are_within.Goals as goal
+use Rattle.wu_text_tests.proofs.extents.are_within.Goals as goal
 
 pub loop-extent-preserved : goal.loop-extent-preserved
 loop-extent-preserved c =

@@ -1,25 +1,15 @@
-//! Compares the words and tokens of texts with those of the table on standard input.
-#![tactic(auto)]
-
+//! Words and tokens of texts.
 ghost use Rattle.std.specs.Prelude.{◌≤◌, length, IfOk};
 
 use std::alloc::Global;
-use std::io;
 use wu_base::TEXT_MAX;
-use wu_rows::{NoAnswer, bytes, bytes_text, compare, list_text, number_text, put_extent};
+use wu_rows::{NoAnswer, bytes, bytes_text, list_text, number_text, put_extent};
 use wu_token::{
     FILE_END, FILE_START, LINE_END, LINE_START, Lines, Word, token_count, tokens, words,
 };
 
-fn main(rt: HostRuntime) -> io::Result<()> {
-    compare(
-        &rt,
-        |alloc, _, call, arguments| answer(alloc, call, arguments),
-    )
-}
-
 /// The answer of the call to the arguments.
-fn answer(alloc: Global, call: &str, arguments: &[&str]) -> Result<String, NoAnswer> {
+pub fn answer(alloc: Global, call: &str, arguments: &[&str]) -> Result<String, NoAnswer> {
     match call {
         "tokens" => placed_terms(alloc, arguments),
         "token_count" => number_of_tokens(alloc, arguments),

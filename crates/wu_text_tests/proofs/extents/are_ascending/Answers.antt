@@ -2,8 +2,8 @@ use Rattle.std.proofs.Common.{List, arith, subst}
 use Rattle.std.proofs.lemmas.List.{take_rest}
 use Rattle.wu_base.specs.declared.addresses.Extent.{Extent}
 use Rattle.wu_snip.specs.Snippets.{IsAscending}
-use Rattle.wu_snip_tests.proofs.Rising.{ascend_from_second, few_ascend}
-use Rattle.wu_snip_tests.proofs.extents.are_ascending.Goals as goal
+use Rattle.wu_text_tests.proofs.Rising.{ascend_from_second, few_ascend}
+use Rattle.wu_text_tests.proofs.extents.are_ascending.Goals as goal
 
 pub loop-rest-preserved : goal.loop-rest-preserved
 loop-rest-preserved c = λ a.

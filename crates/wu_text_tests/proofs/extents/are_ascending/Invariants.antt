@@ -1,6 +1,6 @@
 use Rattle.std.proofs.Common.{length}
 use Rattle.wu_snip.specs.Snippets.{IsAscending}
-use Rattle.wu_snip_tests.proofs.extents.are_ascending.Given as goal
+use Rattle.wu_text_tests.proofs.extents.are_ascending.Given as goal
 
 abbrev pub invariant-loop-rest : goal.invariant-loop-rest
 invariant-loop-rest l = IsAscending l.rest → IsAscending l.extents

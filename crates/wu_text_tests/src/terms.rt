@@ -1,24 +1,14 @@
-//! Compares what is told of the terms of a user with the table on standard input.
-#![tactic(auto)]
-
+//! What is told of the terms of a user.
 use std::alloc::Global;
-use std::io;
 use wu_base::{Bytes, Range};
 use wu_rows::{
-    NoAnswer, ascending_numbers, byte_strings, bytes, bytes_text, compare, first_word, list_text,
-    number, number_text, pieces, plain_text, small_number,
+    NoAnswer, ascending_numbers, byte_strings, bytes, bytes_text, first_word, list_text, number,
+    number_text, pieces, plain_text, small_number,
 };
 use wu_terms::{Candidates, TermFiles, files_with, list_terms, prefix_of};
 
-fn main(rt: HostRuntime) -> io::Result<()> {
-    compare(
-        &rt,
-        |alloc, _, call, arguments| answer(alloc, call, arguments),
-    )
-}
-
 /// The answer of the call to the arguments.
-fn answer(alloc: Global, call: &str, arguments: &[&str]) -> Result<String, NoAnswer> {
+pub fn answer(alloc: Global, call: &str, arguments: &[&str]) -> Result<String, NoAnswer> {
     match call {
         "prefix_of" => prefix_asked(alloc, arguments),
         "Candidates" => words_added(alloc, arguments),
