@@ -1,32 +1,20 @@
-//! Compares what jobs answer step by step over a store in memory with the table on standard input.
-#![tactic(auto)]
-
+//! What jobs answer step by step over a store in memory.
 ghost use Rattle.std.specs.Prelude.{◌+◌, ◌≤◌, All};
 ghost use Rattle.wu_base.specs.declared.limits.TheConstants.{ADDRESSES_MAX};
 ghost use Rattle.wu_part.specs.Parts.{IsRecorded};
 ghost use Rattle.wu_base.specs.Ranges.{AreApart};
 
-mod parts;
-
-use crate::parts::{Part, part_of};
+use crate::records::{Part, part_of};
 use std::alloc::Global;
-use std::io;
 use wu_base::{GENERATION_MAX, Range, Trouble};
 use wu_job::{Job, Progress};
 use wu_outside::{MemStore, Store};
-use wu_rows::{NoAnswer, bytes, bytes_text, compare, numbers};
+use wu_rows::{NoAnswer, bytes, bytes_text, numbers};
 use wu_space_rows::ranges_of;
-
-fn main(rt: HostRuntime) -> io::Result<()> {
-    compare(
-        &rt,
-        |alloc, _, call, arguments| answer(alloc, call, arguments),
-    )
-}
 
 /// What the steps of the row's job answer. The arguments are the parts, the live ranges, what the
 /// store holds of each part's blob, `-` for nothing, and which calls of the store fail.
-fn answer(alloc: Global, call: &str, arguments: &[&str]) -> Result<String, NoAnswer> {
+pub fn answer(alloc: Global, call: &str, arguments: &[&str]) -> Result<String, NoAnswer> {
     let mut job = job_of(alloc, call, arguments)?;
     match arguments {
         [_, _, held, fails] => steps_over(alloc, &mut job, held, "-", fails),
