@@ -1,46 +1,22 @@
-//! Compares what spaces of addresses tell with the tables on standard input, and what they tell
-//! after random changes with a plain list.
-#![tactic(auto)]
-
-mod plain;
-
+//! What spaces of addresses tell, and what they tell after random changes beside a plain list.
+use crate::plain;
 use std::alloc::Global;
-use std::io;
 use wu_base::{Ino, Range};
-use wu_rows::{NoAnswer, Subject, compare_tables, number, number_text, plain_text, small_number};
+use wu_rows::{NoAnswer, number, number_text, plain_text, small_number};
 use wu_space::Space;
 use wu_space_rows::place;
 
-fn main(rt: HostRuntime) -> io::Result<()> {
-    let mut rows = Rows {
-        space: Space::new(rt.alloc(), 0),
+/// What the space answers to the row.
+pub fn answer(alloc: Global, space: &mut Space, fields: &[&str]) -> Result<String, NoAnswer> {
+    let [call, arguments @ ..] = fields else {
+        return Err(NoAnswer::BadRow);
     };
-    compare_tables(&rt, &mut rows)
-}
-
-/// The space to which the rows of a table are put, without files at the beginning of each.
-#[derive(Drop)]
-struct Rows {
-    space: Space,
-}
-
-impl Subject for Rows {
-    fn begin(&mut self, alloc: Global) -> Result<(), NoAnswer> {
-        self.space = Space::new(alloc, 0);
-        Ok(())
-    }
-
-    fn answer(&mut self, alloc: Global, _kind: &str, fields: &[&str]) -> Result<String, NoAnswer> {
-        let [call, arguments @ ..] = fields else {
-            return Err(NoAnswer::BadRow);
-        };
-        match *call {
-            "place" => placed(alloc, &mut self.space, arguments),
-            "release" => released(alloc, &mut self.space, arguments),
-            "rebuild" => rebuilt(alloc, &mut self.space, arguments),
-            "random" => agreement(alloc, arguments),
-            _ => told(alloc, &self.space, call, arguments),
-        }
+    match *call {
+        "place" => placed(alloc, space, arguments),
+        "release" => released(alloc, space, arguments),
+        "rebuild" => rebuilt(alloc, space, arguments),
+        "random" => agreement(alloc, arguments),
+        _ => told(alloc, space, call, arguments),
     }
 }
 
