@@ -3,6 +3,7 @@
 #![tactic(auto)]
 
 mod failing;
+mod random;
 mod stores;
 mod streams;
 
@@ -12,7 +13,9 @@ use wu_rows::{NoAnswer, compare};
 
 fn main(rt: HostRuntime) -> io::Result<()> {
     compare(&rt, answer)?;
-    failing::compare_failing(&rt)
+    failing::compare_failing(&rt)?;
+    random::compare_stores(&rt)?;
+    random::compare_crashes(&rt)
 }
 
 /// The answer of the call to the arguments.

@@ -1,6 +1,4 @@
-//! Compares random calls on all stores, and what crashes leave, with a plain map.
-#![tactic(auto)]
-
+//! Random calls on all stores, and what crashes leave, beside a plain map.
 use std::alloc::Global;
 use std::rt::Files;
 use std::{fs, io};
@@ -9,11 +7,6 @@ use wu_outside::{DirStore, LockFolder, MemStore, PlainStore, Store};
 use wu_outside_rows::Call::{Put, Read, Remove, Root, SetRoot, Size, Sync};
 use wu_outside_rows::{Call, answer, of_bytes, of_nothing, of_size};
 use wu_rows::NoAnswer;
-
-fn main(rt: HostRuntime) -> io::Result<()> {
-    compare_stores(&rt)?;
-    compare_crashes(&rt)
-}
 
 /// Letters, of which puts write the first ones.
 const LETTERS: &[u8] = b"the quick brown fox jumps over the lazy dog and runs away again";
@@ -144,7 +137,7 @@ fn agreeing<D: Store>(alloc: Global, store: &mut D, seed: u64) -> Result<u64, No
 }
 
 /// Makes random calls on each store, and prints how many are answered as by a plain map.
-fn compare_stores<R: Files + Print + AllocGlobal>(rt: &R) -> io::Result<()>
+pub fn compare_stores<R: Files + Print + AllocGlobal>(rt: &R) -> io::Result<()>
 where
     R::File: LockFolder,
 {
@@ -297,7 +290,7 @@ fn allowed_in(alloc: Global, left: &mut MemStore, known: &Known) -> Result<u64, 
 
 /// Lets stores crash after random calls, and prints how many places hold what the definition of a
 /// crash allows.
-fn compare_crashes(rt: &(impl Print + AllocGlobal)) -> io::Result<()> {
+pub fn compare_crashes(rt: &(impl Print + AllocGlobal)) -> io::Result<()> {
     let mut allowed = 0u64;
     for seed in 0..40u64 {
         allowed = allowed.saturating_add(allowed_places(rt.alloc(), seed)?);
