@@ -1,22 +1,16 @@
-//! Compares the extents of expressions with those of the table on standard input, and with those
-//! that are found by trying every extent.
-#![tactic(auto)]
-
+//! The extents of expressions, and those that are found by trying every extent.
 ghost use Rattle.std.specs.Prelude.{All};
 ghost use Rattle.wu_solve.specs.Solving.{IsFrame};
 
-mod plain;
-
 use crate::plain::solve_plainly;
 use std::alloc::Global;
-use std::io;
 use wu_base::{Bytes, Extent, NoMemory, Range};
 use wu_gcl::{Expr, terms_of};
 use wu_region_rows::{
     are_apart, corpus_of, expression, frames_of, joined_frame, lists_of, places_of, solved,
 };
 use wu_rows::{
-    NoAnswer, bytes, bytes_text, compare, extents_text, flag_text, list_text, number, number_text,
+    NoAnswer, bytes, bytes_text, extents_text, flag_text, list_text, number, number_text,
     numbers_text, plain_text,
 };
 use wu_solve::{
@@ -24,15 +18,8 @@ use wu_solve::{
     frames_within, needed_terms, needed_terms_stand, only_term, solve, solve_apart,
 };
 
-fn main(rt: HostRuntime) -> io::Result<()> {
-    compare(
-        &rt,
-        |alloc, _, call, arguments| answer(alloc, call, arguments),
-    )
-}
-
 /// The answer of the call to the arguments.
-fn answer(alloc: Global, call: &str, arguments: &[&str]) -> Result<String, NoAnswer> {
+pub fn answer(alloc: Global, call: &str, arguments: &[&str]) -> Result<String, NoAnswer> {
     match call {
         "solve" => extents(alloc, arguments),
         "solve, counted" => counts(alloc, arguments),

@@ -1,29 +1,19 @@
-//! Compares what a cursor answers with the table on standard input, and with what `solve` lists.
-#![tactic(auto)]
-
+//! What a cursor answers, and what `solve` lists.
 ghost use Rattle.std.specs.Prelude.{All};
 ghost use Rattle.wu_solve.specs.Addresses.{AreLists};
 ghost use Rattle.wu_solve.specs.Solving.{IsFrame};
 ghost use Rattle.wu_base.specs.Ranges.{AreApart};
 
 use std::alloc::Global;
-use std::io;
 use wu_base::{Extent, NoMemory, Range, TermList};
 use wu_cursor::{Cursor, solve_lazily};
 use wu_gcl::{Expr, terms_of};
 use wu_region_rows::{are_apart, corpus_of, expression, frames_of, lists_of};
-use wu_rows::{NoAnswer, compare, extents_text, flag_text, number};
+use wu_rows::{NoAnswer, extents_text, flag_text, number};
 use wu_solve::solve;
 
-fn main(rt: HostRuntime) -> io::Result<()> {
-    compare(
-        &rt,
-        |alloc, _, call, arguments| answer(alloc, call, arguments),
-    )
-}
-
 /// The answer of the call to the arguments.
-fn answer(alloc: Global, call: &str, arguments: &[&str]) -> Result<String, NoAnswer> {
+pub fn answer(alloc: Global, call: &str, arguments: &[&str]) -> Result<String, NoAnswer> {
     match arguments {
         [texts, numbers, expr] => of_all(alloc, call, texts, numbers, expr),
         [texts, numbers, expr, place] => {
