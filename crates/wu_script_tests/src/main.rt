@@ -1,7 +1,8 @@
-//! Compares what lines and scripts say, and how replies are written, with the tables on standard
-//! input.
+//! Compares what command lines, lines and scripts say, and how replies are written, with the
+//! tables on standard input.
 #![tactic(auto)]
 
+mod commands;
 mod items;
 mod lines;
 mod reading;
@@ -28,6 +29,7 @@ impl Subject for Rows {
 
     fn answer(&mut self, alloc: Global, kind: &str, fields: &[&str]) -> Result<String, NoAnswer> {
         match kind {
+            "command line" => commands::asked_for(alloc, fields),
             "line" => lines::said(alloc, fields),
             "items" => items::read(alloc, fields),
             "reading" => reading::ended(alloc, fields),
