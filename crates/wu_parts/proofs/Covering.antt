@@ -8,11 +8,12 @@ use Rattle.wu_layout.specs.Postings.{is_live}
 use Rattle.wu_base.specs.Ranges.{is_in}
 use Rattle.wu_lists.specs.Ascending.{AscendBetween, AreInOrder}
 use Rattle.wu_parts.specs.LeadingBytes.{Numbered}
-use Rattle.wu_parts.specs.Chains.{moved, places_of}
+use Rattle.wu_parts.specs.declared.addressing.Addressing.{Addressing}
+use Rattle.wu_parts.specs.Addressing.{IsRising}
+use Rattle.wu_parts.specs.Chains.{end_of, moved, places_of}
 use Rattle.wu_lists.proofs.Ascending.{first_end}
-use Rattle.wu_parts.proofs.Moving.{ascend-moved}
 use Rattle.wu_parts.proofs.LiveTerms.{filter-zero}
-use Rattle.wu_parts.proofs.MemoryLists.{all_at, all_between}
+use Rattle.wu_parts.proofs.MemoryLists.{all_at, all_between, ascend-placed}
 
 -- an address of one of the ranges is live
 live_at : (ranges : List Range) (place : ℕ) (range : Range) (address : ℕ) → place < length ranges → range ≡ get_or ranges place range
@@ -97,19 +98,17 @@ covered-end ranges [] start end reached e a from all =
     (cases_lt reached end)
 covered-end ranges (x ∷ left) start end reached e a from all = absurd cc
 
--- what is so of each address from start on is so of those of a chain
-pub walked_all : (P : ℕ → Type 0) (start : ℕ) (links : List ℕ) (entries : List Numbered) (place : ℕ) (d : Numbered) (addresses : List ℕ)
-    → AllByRecursion (λ e. AscendBetween 0 (length links) (places_of links e.1.1)) entries → place < length entries
-    → addresses ≡ filter (nat_le 0) (moved start (places_of links (get_or entries place d).1.1))
-    → ((address : ℕ) → start ≤ address → address < start + length links → P address) → AllByRecursion P addresses
-walked_all P start links entries place d addresses a l e f =
+-- what is so of each address from the start up to the end is so of those of a chain
+pub walked_all : (P : ℕ → Type 0) (addressing : Addressing) (links : List ℕ) (entries : List Numbered) (place : ℕ) (d : Numbered)
+    (addresses : List ℕ) → AllByRecursion (λ e. AscendBetween 0 (length links) (places_of links e.1.1)) entries → IsRising addressing
+    → place < length entries → addresses ≡ filter (nat_le 0) (moved addressing (places_of links (get_or entries place d).1.1))
+    → ((address : ℕ) → addressing.start ≤ address → address < end_of addressing links → P address) → AllByRecursion P addresses
+walked_all P addressing links entries place d addresses a r l e f =
     let places : List ℕ = places_of links (get_or entries place d).1.1 in
     let ascend : AscendBetween 0 (length links) places =
     all_at (λ (e : Numbered). AscendBetween 0 (length links) (places_of links e.1.1)) entries place d a l in
-    subst (AllByRecursion P) (sym (e ∙ filter-zero (moved start places)))
-    (all_between start (start + length links) P (moved start places) f
-    (subst (λ n. AscendBetween n (start + length links) (moved start places)) (omega arith)
-    (ascend-moved start 0 (length links) places ascend)))
+    subst (AllByRecursion P) (sym (e ∙ filter-zero (moved addressing places)))
+    (all_between addressing.start (end_of addressing links) P (moved addressing places) f (ascend-placed addressing links places r ascend))
 
 pub all_kept : (ranges : List Range) (addresses : List ℕ) → AllByRecursion (λ address. is_live ranges address ≡ true) addresses
     → addresses ≡ filter (is_live ranges) addresses

@@ -1,3 +1,4 @@
+pub mod RisingAddresses
 pub mod Moving
 pub mod Putting
 pub mod Gaining

@@ -17,20 +17,31 @@ use Rattle.wu_layout.specs.Postings.{Posting, is_live, live_of}
 use Rattle.wu_layout.specs.Layouts.{lists_of as lists_of_postings}
 use Rattle.wu_space.specs.Addresses.{Ranges, live_ranges, shared}
 use Rattle.wu_base.specs.Ranges.{AreApart}
+use Rattle.wu_parts.specs.declared.addressing.Addressing.{Addressing}
 use Rattle.wu_parts.specs.declared.chains.Chain.{Chain}
 use Rattle.wu_parts.specs.Memory.{HasPostings, Lists}
 use Rattle.wu_lists.specs.Ascending.{AreInOrder, AscendBetween}
 use Rattle.wu_parts.specs.Lists.{IsList}
-use Rattle.wu_parts.specs.Chains.{AreChains, Chained, addressed, all_moved, chained, lists_of, memory_of, moved, places_of}
+use Rattle.wu_parts.specs.Addressing.{IsRising, address_of}
+use Rattle.wu_parts.specs.Chains.{AreChains, Chained, addressed, all_moved, chained, end_of, lists_of, memory_of, moved, places_of}
 use Rattle.wu_parts.specs.LeadingBytes.{Numbered, behind}
 use Rattle.wu_token.specs.Words.{IsTerm}
 use Rattle.wu_parts.specs.LiveLists.{AreEncodable, live_lists}
-use Rattle.wu_lists.proofs.Ascending.{all_from_zero, order-from_apart}
+use Rattle.wu_lists.proofs.Ascending.{all_from_zero, ascend-lower, order-from_apart}
 use Rattle.wu_parts.proofs.Moving.{ascend-moved}
+use Rattle.wu_parts.proofs.RisingAddresses.{counted_from}
 use Rattle.wu_parts.proofs.LiveTerms.{IsListWithin, filter-zero, lists_encodable, live_lists-append, live_lists_are, live_same}
 
 abbrev Entries : Type 0
 Entries = List (Vec ℕ Global × Chain)
+
+-- the addresses of places lie from the start up to the end
+pub ascend-placed : (addressing : Addressing) (links places : List ℕ) → IsRising addressing → AscendBetween 0 (length links) places
+    → AscendBetween addressing.start (end_of addressing links) (moved addressing places)
+ascend-placed addressing links places r a =
+    let low : addressing.start + 0 ≤ address_of addressing 0 = counted_from 0 addressing.start addressing.breaks.items 0 r in
+    ascend-lower addressing.start (address_of addressing 0) (end_of addressing links) (moved addressing places) (omega (arith, low))
+    (ascend-moved addressing 0 (length links) places r a)
 
 module _ (links : List ℕ) where
   abbrev IsChained : Chained → Type 0
@@ -61,28 +72,23 @@ module _ (links : List ℕ) where
       → AllByRecursion (λ e. IsTerm e.1.0.now) entries
   chains_terms es entries a p = terms_behind entries (each-permuted IsChained (map chained es) (map behind entries) p (are_chained es a))
 
-  module _ (start : ℕ) where
-    lists_addressed : (es : Entries) → map (addressed start links) (map chained es) ≡ all_moved start (lists_of links es)
+  module _ (addressing : Addressing) where
+    lists_addressed : (es : Entries) → map (addressed addressing links) (map chained es) ≡ all_moved addressing (lists_of links es)
     lists_addressed [] = refl
     lists_addressed (e ∷ es) =
-        ap (λ (l : Lists). (e.0.items, moved start (places_of links e.1)) ∷ l) (lists_addressed es)
+        ap (λ (l : Lists). (e.0.items, moved addressing (places_of links e.1)) ∷ l) (lists_addressed es)
 
-    same_keys : (entries : List Chained) → keys_of (map (addressed start links) entries) ≡ keys_of entries
+    same_keys : (entries : List Chained) → keys_of (map (addressed addressing links) entries) ≡ keys_of entries
     same_keys [] = refl
     same_keys (e ∷ entries) = ap (λ (l : List (List ℕ)). e.0 ∷ l) (same_keys entries)
 
-    are_within : (entries : List Chained) → AllByRecursion IsChained entries
-        → AllByRecursion (IsListWithin start (start + length links)) (map (addressed start links) entries)
-    are_within [] a = tt
-    are_within (e ∷ entries) a =
-        let from : start + 0 ≡ start = omega arith in (
-          (
-            a.0.term,
-            subst (λ n. AscendBetween n (start + length links) (moved start (places_of links e.1))) from
-                (ascend-moved start 0 (length links) (places_of links e.1) a.0.ascend),
-          ),
-          are_within entries a.1,
-        )
+    are_within : (entries : List Chained) → IsRising addressing → AllByRecursion IsChained entries
+        → AllByRecursion (IsListWithin addressing.start (end_of addressing links)) (map (addressed addressing links) entries)
+    are_within [] r a = tt
+    are_within (e ∷ entries) r a = (
+      (a.0.term, ascend-placed addressing links (places_of links e.1) r a.0.ascend),
+      are_within entries r a.1,
+    )
 
 pub all_between : (low high : ℕ) (P : ℕ → Type 0) (xs : List ℕ) → ((x : ℕ) → low ≤ x → x < high → P x) → AscendBetween low high xs
     → AllByRecursion P xs
@@ -101,14 +107,14 @@ all_live start end live ranges (list ∷ lists) f a = (
   all_live start end live ranges lists f a.1,
 )
 
-module _ (low start stored : ℕ) (links : List ℕ) (es : Entries) (entries : List Numbered) (live : List Range)
-    (ranges : Ranges) (a : AreChains links es) (p : IsPermutation (map chained es) (map behind entries))
+module _ (low : ℕ) (addressing : Addressing) (links : List ℕ) (es : Entries) (entries : List Numbered) (live : List Range)
+    (ranges : Ranges) (a : AreChains links es) (r : IsRising addressing) (p : IsPermutation (map chained es) (map behind entries))
     (d : IsDistinct (pointwise nat_eq) (keys_of (map chained es)))
     (s : IsStrictlySortedBy (slice_cmp nat_cmp) (keys_of (map behind entries)))
-    (q : IsPermutation (live_ranges ranges start (start + length links)) live)
-    (from to : ℕ) (postings : List Posting) (h : HasPostings from to (memory_of low start stored links es) postings) where
+    (q : IsPermutation (live_ranges ranges addressing.start (end_of addressing links)) live)
+    (from to : ℕ) (postings : List Posting) (h : HasPostings from to (memory_of low addressing links es) postings) where
   abbrev sorted : Lists
-  sorted = map (addressed start links) (map behind entries)
+  sorted = map (addressed addressing links) (map behind entries)
 
   abbrev all_ranges : List Range
   all_ranges = map (λ file. file.1) ranges
@@ -116,16 +122,17 @@ module _ (low start stored : ℕ) (links : List ℕ) (es : Entries) (entries : L
   -- a flush has the lists of a part of the live postings
   pub lists_made : live_lists live sorted ≡ lists_of_postings (live_of all_ranges postings)
   lists_made =
-      let lists : Lists = all_moved start (lists_of links es) in
-      let same : map (addressed start links) (map chained es) ≡ lists = lists_addressed links start es in
-      live_lists_are (memory_of low start stored links es) sorted live all_ranges
+      let lists : Lists = all_moved addressing (lists_of links es) in
+      let same : map (addressed addressing links) (map chained es) ≡ lists = lists_addressed links addressing es in
+      live_lists_are (memory_of low addressing links es) sorted live all_ranges
       (subst (λ (l : Lists). IsPermutation l sorted) same
-      (IsPermutation-map (addressed start links) (map chained es) (map behind entries) p))
-      (subst (IsDistinct (pointwise nat_eq)) (sym (same_keys links start (map chained es)) ∙ ap keys_of same) d)
-      (subst (IsStrictlySortedBy (slice_cmp nat_cmp)) (sym (same_keys links start (map behind entries))) s)
-      (all_live start (start + length links) live all_ranges lists (live_same ranges start (start + length links) live q)
-      (subst (AllByRecursion (IsListWithin start (start + length links))) same
-      (are_within links start (map chained es) (are_chained links es a))))
+      (IsPermutation-map (addressed addressing links) (map chained es) (map behind entries) p))
+      (subst (IsDistinct (pointwise nat_eq)) (sym (same_keys links addressing (map chained es)) ∙ ap keys_of same) d)
+      (subst (IsStrictlySortedBy (slice_cmp nat_cmp)) (sym (same_keys links addressing (map behind entries))) s)
+      (all_live addressing.start (end_of addressing links) live all_ranges lists
+      (live_same ranges addressing.start (end_of addressing links) live q)
+      (subst (AllByRecursion (IsListWithin addressing.start (end_of addressing links))) same
+      (are_within links addressing (map chained es) r (are_chained links es a))))
       from to postings h
 
   pub lists_can_be_encoded : AreEncodable (live_lists live sorted)
@@ -139,17 +146,18 @@ all_at P [] place d a l = absurd (omega arith)
 all_at P (y ∷ ys) zero d a l = a.0
 all_at P (y ∷ ys) (suc place) d a l = all_at P ys place d a.1 (omega arith)
 
-pub more_live : (start : ℕ) (links : List ℕ) (live : List Range) (entries : List Numbered) (place : ℕ)
+pub more_live : (addressing : Addressing) (links : List ℕ) (live : List Range) (entries : List Numbered) (place : ℕ)
     (d : Numbered) (addresses : List ℕ) (before after : List TermList) → place < length entries
-    → addresses ≡ filter (nat_le 0) (moved start (places_of links (get_or entries place d).1.1))
-    → before ≡ live_lists live (map (addressed start links) (map behind (take place entries)))
+    → addresses ≡ filter (nat_le 0) (moved addressing (places_of links (get_or entries place d).1.1))
+    → before ≡ live_lists live (map (addressed addressing links) (map behind (take place entries)))
     → after ≡ before ++ live_lists live (((get_or entries place d).1.0.now, addresses) ∷ [])
-    → after ≡ live_lists live (map (addressed start links) (map behind (take (place + 1) entries)))
-more_live start links live entries place d addresses before after l is b e =
-    let address : Chained → List ℕ × List ℕ = addressed start links in
+    → after ≡ live_lists live (map (addressed addressing links) (map behind (take (place + 1) entries)))
+more_live addressing links live entries place d addresses before after l is b e =
+    let address : Chained → List ℕ × List ℕ = addressed addressing links in
     let entry : Numbered = get_or entries place d in
     let front : List Numbered = take place entries in
-    let walked : addresses ≡ moved start (places_of links entry.1.1) = is ∙ filter-zero (moved start (places_of links entry.1.1)) in
+    let walked : addresses ≡ moved addressing (places_of links entry.1.1) =
+    is ∙ filter-zero (moved addressing (places_of links entry.1.1)) in
     let whole : map address (map behind (take (place + 1) entries)) ≡ map address (map behind front) ++ address (behind entry) ∷ [] =
     ap (λ (l : List Numbered). map address (map behind l)) (take_more entries place d l)
     ∙ ap (map address) (map-append behind front (entry ∷ []))

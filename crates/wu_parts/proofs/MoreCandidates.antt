@@ -16,6 +16,7 @@ use Rattle.wu_terms.proofs.Collected.{once_with}
 use Rattle.wu_parts.specs.Candidates.{GainsCandidates, candidates_of, terms_listed}
 use Rattle.wu_parts.specs.Chains.{all_moved, lists_of}
 use Rattle.wu_parts.specs.StoredParts.{directories_of}
+use Rattle.wu_parts.specs.declared.addressing.Addressing.{Addressing}
 use Rattle.wu_parts.specs.declared.chains.Chain.{Chain}
 use Rattle.wu_parts.specs.declared.writing.StoredPart.{StoredPart}
 
@@ -56,10 +57,11 @@ next_listed parts i part within is =
 abbrev pub names_of : List (Vec ℕ Global × Chain) → List (List ℕ)
 names_of entries = map (λ entry. entry.0.items) entries
 
-pub names_are_keys : (start : ℕ) (links : List ℕ) (entries : List (Vec ℕ Global × Chain))
-    → keys_of (all_moved start (lists_of links entries)) ≡ names_of entries
-names_are_keys start links [] = refl
-names_are_keys start links (entry ∷ entries) = ap (λ (ts : List (List ℕ)). entry.0.items ∷ ts) (names_are_keys start links entries)
+pub names_are_keys : (addressing : Addressing) (links : List ℕ) (entries : List (Vec ℕ Global × Chain))
+    → keys_of (all_moved addressing (lists_of links entries)) ≡ names_of entries
+names_are_keys addressing links [] = refl
+names_are_keys addressing links (entry ∷ entries) =
+    ap (λ (ts : List (List ℕ)). entry.0.items ∷ ts) (names_are_keys addressing links entries)
 
 -- those of some of the terms were added, and others are left
 pub record IsAdding (old words : Collection) (all left : List (List ℕ)) : Type 0 where

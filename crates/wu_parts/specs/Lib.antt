@@ -15,6 +15,7 @@ pub mod Lists
 pub mod LiveLists
 pub mod StoredParts
 pub mod UnitsOfParts
+pub mod Addressing
 pub mod Chains
 pub mod LeadingBytes
 pub mod OpenedParts

@@ -4,8 +4,10 @@ ghost use Rattle.std.specs.Prelude.{◌≡◌, ◌+◌, ◌/◌, ◌^◌, ◌<�
 ghost use Rattle.std.specs.Vec.{vec_capacity, vec_len};
 ghost use Rattle.wu_lists.specs.Ascending.{AscendBetween};
 ghost use Rattle.wu_parts.specs.Lists.{with_address};
-ghost use Rattle.wu_parts.specs.Chains.{AreChains, lists_of, moved, places_of};
+ghost use Rattle.wu_parts.specs.Addressing.{IsRising};
+ghost use Rattle.wu_parts.specs.Chains.{AreChains, end_of, lists_of, moved, places_of};
 
+use crate::addressing::Addressing;
 use indexmap::IndexMap;
 use std::alloc::Global;
 use wu_base::{ADDRESSES_MAX, NoMemory};
@@ -137,21 +139,22 @@ fn next_place(places: usize) -> Result<u32, NoMemory>
     }
 }
 
-/// The addresses of the chain's places from `low` on, ascending, where the first place has the address
-/// `start`. Takes time for each of them, and not for those below.
+/// The addresses of the chain's places from `low` on, ascending. Takes time for each of them, and not
+/// for those below.
 pub(crate) fn addresses_from(
     alloc: Global,
     chain: Chain,
     links: &[u32],
-    start: u64,
+    addressing: &Addressing,
     low: u64,
 ) -> Result<Vec<u64>, NoMemory>
     requires chain { AscendBetween 0 (length links.now) (places_of links.now chain) }
-    requires bounded { start + length links.now ≤ ADDRESSES_MAX }
-    ensures addresses { IfOk result (λ found. found.items ≡ filter (nat_le low) (moved start (places_of links.now chain))) }
+    requires rising { IsRising addressing.now }
+    requires bounded { end_of addressing.now links.now ≤ ADDRESSES_MAX }
+    ensures addresses { IfOk result (λ found. found.items ≡ filter (nat_le low) (moved addressing.now (places_of links.now chain))) }
     ensures ascend { IfOk result (λ found. AscendBetween 0 ADDRESSES_MAX found.items) }
 {
-    let mut found = addresses_back_to(alloc, chain, links, start, low)?;
+    let mut found = addresses_back_to(alloc, chain, links, addressing, low)?;
     found.reverse();
     Ok(found)
 }
@@ -161,17 +164,18 @@ fn addresses_back_to(
     alloc: Global,
     chain: Chain,
     links: &[u32],
-    start: u64,
+    addressing: &Addressing,
     low: u64,
 ) -> Result<Vec<u64>, NoMemory>
     requires chain { AscendBetween 0 (length links.now) (places_of links.now chain) }
-    requires bounded { start + length links.now ≤ ADDRESSES_MAX }
-    ensures { IfOk result (λ found. reverse found.items ≡ filter (nat_le low) (moved start (places_of links.now chain))) }
+    requires rising { IsRising addressing.now }
+    requires bounded { end_of addressing.now links.now ≤ ADDRESSES_MAX }
+    ensures { IfOk result (λ found. reverse found.items ≡ filter (nat_le low) (moved addressing.now (places_of links.now chain))) }
 {
     let mut found = Vec::new(alloc);
     let mut left = chain;
     while left.count > 0 {
-        let address = start + u64::from(left.newest);
+        let address = addressing.address_of(left.newest);
         if address < low {
             return Ok(found);
         }

@@ -7,11 +7,13 @@ ghost use Rattle.std.specs.Map.{keys_of};
 ghost use Rattle.std.specs.Ordering.{nat_cmp};
 ghost use Rattle.wu_layout.specs.Postings.{is_live};
 ghost use Rattle.wu_lists.specs.Ascending.{AscendBetween, AreInOrder};
-ghost use Rattle.wu_parts.specs.Chains.{addressed, chained, places_of};
+ghost use Rattle.wu_parts.specs.Addressing.{IsRising};
+ghost use Rattle.wu_parts.specs.Chains.{addressed, chained, end_of, places_of};
 ghost use Rattle.wu_parts.specs.LeadingBytes.{IsBytes, IsNumbered, behind, number_of};
 ghost use Rattle.wu_parts.specs.LiveLists.{live_lists};
 ghost use Rattle.wu_token.specs.Words.{IsTerm};
 
+use crate::addressing::Addressing;
 use crate::chains::{Chain, addresses_from};
 use crate::frames::{first_start, within_frames};
 use indexmap::IndexMap;
@@ -84,26 +86,28 @@ fn byte_at(term: &[u8], place: usize) -> u8
 }
 
 /// The lists of these terms at the live addresses, without the terms that stand at none: each is written and dropped
-/// before the next one is cut. The places of the chains have the addresses from `start` on. Where all of these are
-/// live, none is looked up.
+/// before the next one is cut. Where all addresses from the first place's on are live, none is looked up.
 pub(crate) fn cut_to_live(
     alloc: Global,
     entries: &[(u64, (&[u8], Chain))],
     links: &[u32],
-    start: u64,
+    addressing: &Addressing,
     live: &[Range],
 ) -> Result<Builder, NoMemory>
     requires terms { AllByRecursion (λ e. IsTerm e.1.0.now) entries.now }
     requires chains { AllByRecursion (λ e. AscendBetween 0 (length links.now) (places_of links.now e.1.1)) entries.now }
-    requires bounded { start + length links.now ≤ ADDRESSES_MAX }
+    requires few { length links.now < 2 ^ 32 }
+    requires rising { IsRising addressing.now }
+    requires bounded { end_of addressing.now links.now ≤ ADDRESSES_MAX }
     requires order { AreInOrder 0 (2 ^ 64 - 1) live.now }
-    ensures { IfOk result (λ lists. lists.lists ≡ live_lists live.now (map (addressed start links.now) (map behind entries.now))) }
+    ensures { IfOk result (λ lists. lists.lists ≡ live_lists live.now (map (addressed addressing.now links.now) (map behind entries.now))) }
 {
-    let all_live = are_covered(start, start + links.len() as u64, live);
-    let low = start.max(first_start(live));
+    let end = addressing.address_of(links.len() as u32);
+    let all_live = are_covered(addressing.start(), end, live);
+    let low = addressing.start().max(first_start(live));
     let mut lists = Builder::with_room(alloc, low, links.len() * POSTING_BYTES)?;
     for entry in entries {
-        let addresses = addresses_from(alloc, entry.1.1, links, start, 0)?;
+        let addresses = addresses_from(alloc, entry.1.1, links, addressing, 0)?;
         put_live(alloc, &mut lists, entry.1.0, addresses, live, all_live)?;
     }
     Ok(lists)

@@ -3,6 +3,7 @@
 //! garbage collection of dynamic indices in Büttcher, Clarke and Cormack, Information Retrieval, chapter 7.
 #![tactic(auto)]
 
+mod addressing;
 mod background;
 mod candidates;
 mod chains;

@@ -14,6 +14,7 @@ ghost use Rattle.wu_lists.specs.Tallying.{Counts};
 ghost use Rattle.wu_parts.specs.Lists.{with_posting, with_terms};
 ghost use Rattle.wu_parts.specs.LiveLists.{AreEncodable};
 
+use crate::addressing::Addressing;
 use crate::chains::{Chain, addresses_from, forget, put};
 use crate::flushing::{by_term, cut_to_live};
 use crate::frames::first_start;
@@ -27,18 +28,16 @@ use wu_space::Space;
 use wu_terms::Candidates;
 use wu_token::{FILE_END, FILE_START, LINE_END, LINE_START, Lines, Piece, Token, Word};
 
-/// The postings that are in memory, as chains of the addresses from `start` on: an address that no posting
-/// has, between two texts, has a link that is never followed. Contracts see the addresses of each term, the
-/// number of postings, the first address above all of them, and one below none of them: where the last flush
-/// ended.
+/// The postings that are in memory, as chains of places: each posting has one, and `addressing` tells
+/// the address of each. Contracts see the addresses of each term, the number of postings, the first
+/// address above all of them, and one below none of them: where the last flush ended.
 #[derive(Drop)]
 pub(crate) struct MemoryPostings {
     alloc: Global,
     chains: IndexMap<Vec<u8>, Chain>,
     before: Vec<u32>,
+    addressing: Addressing,
     low: u64,
-    start: u64,
-    stored: u64,
 }
 
 impl Model for MemoryPostings {
@@ -48,9 +47,9 @@ impl Model for MemoryPostings {
 
     ghost use Rattle.wu_parts.specs.Chains.{memory_of, IsKept};
 
-    ghost view = { λ m. memory_of m.low m.start m.stored m.before.items m.chains.entries };
+    ghost view = { λ m. memory_of m.low m.addressing m.before.items m.chains.entries };
 
-    ghost invariant = { λ m. IsKept m.low m.start m.stored m.before.items m.chains.entries };
+    ghost invariant = { λ m. IsKept m.low m.addressing m.before.items m.chains.entries };
 }
 
 impl MemoryPostings {
@@ -58,14 +57,7 @@ impl MemoryPostings {
     pub(crate) fn new(alloc: Global) -> MemoryPostings
         ensures { result ≡ no_postings }
     {
-        MemoryPostings {
-            alloc,
-            chains: IndexMap::new(alloc),
-            before: Vec::new(alloc),
-            low: 0,
-            start: 0,
-            stored: 0,
-        }
+        MemoryPostings::from_address(alloc, 0)
     }
 
     /// No postings, and none to come below the address. Takes no memory.
@@ -77,9 +69,8 @@ impl MemoryPostings {
             alloc,
             chains: IndexMap::new(alloc),
             before: Vec::new(alloc),
+            addressing: Addressing::from_start(alloc, address),
             low: address,
-            start: address,
-            stored: 0,
         }
     }
 
@@ -89,14 +80,14 @@ impl MemoryPostings {
         ensures room { self.now.low + self.now.stored ≤ self.now.end }
         ensures bounded { self.now.end ≤ ADDRESSES_MAX }
     {
-        self.stored
+        self.before.len() as u64
     }
 
     /// The first address above all postings.
     fn end(&self) -> u64
         ensures { result ≡ self.now.end }
     {
-        self.start + self.before.len() as u64
+        self.addressing.address_of(self.before.len() as u32)
     }
 
     /// Makes the address the one of the next posting. Out of memory, all is as it was.
@@ -107,11 +98,13 @@ impl MemoryPostings {
         ensures err { OnErr result (self.new ≡ self.old) }
     {
         if self.before.is_empty() {
-            self.start = address;
+            self.addressing = Addressing::from_start(self.alloc, address);
             return Ok(());
         }
-        let places = places_between(self.start, address)?;
-        self.before.resize(places, 0)?;
+        if self.end() == address {
+            return Ok(());
+        }
+        self.addressing.break_at(self.before.len() as u32, address)?;
         Ok(())
     }
 
@@ -123,7 +116,6 @@ impl MemoryPostings {
         ensures err { OnErr result (self.new ≡ self.old) }
     {
         put(self.alloc, &mut self.chains, &mut self.before, term)?;
-        self.stored += 1;
         Ok(())
     }
 
@@ -189,9 +181,9 @@ impl MemoryPostings {
         ensures bounded { self.now.end ≤ ADDRESSES_MAX }
     {
         space.keeps_the_rules();
-        let live = space.live_ranges(self.start, self.end())?;
+        let live = space.live_ranges(self.addressing.start(), self.end())?;
         let entries = by_term(self.alloc, &self.chains)?;
-        cut_to_live(self.alloc, &entries, &self.before, self.start, &live)
+        cut_to_live(self.alloc, &entries, &self.before, &self.addressing, &live)
     }
 
     /// Adds the terms of which there are postings. Out of memory, some of them may have been added.
@@ -208,10 +200,9 @@ impl MemoryPostings {
     pub(crate) fn clear(&mut self)
         ensures { self.new ≡ emptied self.old }
     {
-        self.start = self.end();
-        self.low = self.start;
+        self.low = self.end();
+        self.addressing = Addressing::from_start(self.alloc, self.low);
         forget(self.alloc, &mut self.chains, &mut self.before);
-        self.stored = 0;
     }
 
     /// The addresses of the term that lie in the frames, ascending. Takes no time for those below the first
@@ -279,22 +270,9 @@ impl MemoryPostings {
         match self.chains.get(term) {
             Some(chain) => {
                 let low = first_start(frames);
-                addresses_from(self.alloc, *chain, &self.before, self.start, low)
+                addresses_from(self.alloc, *chain, &self.before, &self.addressing, low)
             }
             None => Ok(Vec::new(self.alloc)),
         }
-    }
-}
-
-/// How many places there are from the first address up to the other one.
-fn places_between(start: u64, end: u64) -> Result<usize, NoMemory>
-    requires { start ≤ end }
-    ensures places { IfOk result (λ places. start + places ≡ end) }
-    ensures bounded { IfOk result (λ places. places < 2 ^ 32) }
-    ensures err { OnErr result (start + 2 ^ 32 ≤ end) }
-{
-    match u32::try_from(end - start) {
-        Ok(places) => Ok(places as usize),
-        Err(_) => Err(NoMemory),
     }
 }

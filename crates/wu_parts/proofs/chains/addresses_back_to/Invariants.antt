@@ -6,7 +6,8 @@ use Rattle.wu_parts.proofs.chains.addresses_back_to.Given as goal
 
 abbrev pub invariant-loop-left : goal.invariant-loop-left
 invariant-loop-left l = record {
-  made : from_low l.start l.low (places_of l.links l.left) ++ reverse l.found.items ≡ from_low l.start l.low (places_of l.links l.fn.chain);
+  made : from_low l.addressing l.low (places_of l.links l.left) ++ reverse l.found.items
+      ≡ from_low l.addressing l.low (places_of l.links l.fn.chain);
   chain : AscendBetween 0 (length l.links) (places_of l.links l.left);
 }
 

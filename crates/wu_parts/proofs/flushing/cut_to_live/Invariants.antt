@@ -7,5 +7,5 @@ use Rattle.wu_parts.proofs.flushing.cut_to_live.Given as goal
 abbrev pub invariant-loop-entry : goal.invariant-loop-entry
 invariant-loop-entry l = record {
   low : l.lists.low ≡ l.low;
-  lists : l.lists.lists ≡ live_lists l.live (map (addressed l.start l.links) (map behind (take l.entry-index l.entries)));
+  lists : l.lists.lists ≡ live_lists l.live (map (addressed l.addressing l.links) (map behind (take l.entry-index l.entries)));
 }

@@ -8,7 +8,7 @@ pub loop-term-init : goal.loop-term-init
 loop-term-init c =
     adding_begins c.args.words.now (keys_of c.args.self.now.lists) (names_of c.into_iter-term-iterator.result)
     (ap names_of (c.into_iter-term-iterator.ensures.into_iter_gives ∙ c.iter-term-items.ensures.rest)
-    ∙ sym (names_are_keys c.self.inside.start c.self.inside.before.items c.self.inside.chains.entries)
+    ∙ sym (names_are_keys c.self.inside.addressing c.self.inside.before.items c.self.inside.chains.entries)
     ∙ ap (λ (m : Memory). keys_of m.lists) c.self.view_is)
 
 pub loop-term-preserved : goal.loop-term-preserved

@@ -4,6 +4,7 @@ use Rattle.wu_base.specs.declared.limits.TheConstants.{ADDRESSES_MAX}
 use Rattle.wu_base.specs.declared.addresses.Range.{Range}
 use Rattle.wu_layout.specs.Postings.{Posting, is_live}
 use Rattle.wu_parts.specs.Memory.{HasPostings, Memory, held}
+use Rattle.wu_parts.specs.declared.addressing.Addressing.{Addressing}
 use Rattle.wu_parts.specs.Chains.{moved, places_of}
 use Rattle.wu_lists.specs.Ascending.{AscendBetween}
 use Rattle.wu_lists.proofs.Ascending.{ascend-filter, ascend-higher, frames_in_order}
@@ -36,15 +37,15 @@ returns-in-Some-clause-near c =
 pub returns-in-Some-clause-live : goal.returns-in-Some-clause-live
 returns-in-Some-clause-live c =
     let low : ℕ = c.first_start-low.result in
-    let start : ℕ = c.self.inside.start in
+    let addressing : Addressing = c.self.inside.addressing in
     let links : List ℕ = c.self.inside.before.items in
     let live : List ℕ → List ℕ = filter (is_live c.args.frames.now) in
-    let near : List ℕ → List ℕ = λ l. filter (nat_le low) (moved start (places_of l c.in-Some.chain.now)) in
-    let all : moved start (places_of links c.in-Some.chain.now) ≡ held c.args.self.now c.args.term.now =
-    sym (held-found start links c.args.term.now c.self.inside.chains.entries c.in-Some.chain.now (sym c.in-Some.ensures.value))
+    let near : List ℕ → List ℕ = λ l. filter (nat_le low) (moved addressing (places_of l c.in-Some.chain.now)) in
+    let all : moved addressing (places_of links c.in-Some.chain.now) ≡ held c.args.self.now c.args.term.now =
+    sym (held-found addressing links c.args.term.now c.self.inside.chains.entries c.in-Some.chain.now (sym c.in-Some.ensures.value))
     ∙ ap (λ (m : Memory). held m c.args.term.now) c.self.view_is in
     let same : live (near links) ≡ live (held c.args.self.now c.args.term.now) =
-    filter-from low (2 ^ 64 - 1) c.args.frames.now c.first_start-low.ensures.order (moved start (places_of links c.in-Some.chain.now))
+    filter-from low (2 ^ 64 - 1) c.args.frames.now c.first_start-low.ensures.order (moved addressing (places_of links c.in-Some.chain.now))
     ∙ ap live all in
     IfOk-weaker c.addresses_from.result (λ (found : Vec ℕ Global). found.items ≡ near c.deref.result.now)
     (λ (found : Vec ℕ Global). live found.items ≡ live (held c.args.self.now c.args.term.now))
@@ -54,7 +55,7 @@ pub returns-in-None-clause-live : goal.returns-in-None-clause-live
 returns-in-None-clause-live c =
     let none : held c.args.self.now c.args.term.now ≡ [] =
     ap (λ (m : Memory). held m c.args.term.now) (sym c.self.view_is)
-    ∙ held-absent c.self.inside.start c.self.inside.before.items c.args.term.now c.self.inside.chains.entries
+    ∙ held-absent c.self.inside.addressing c.self.inside.before.items c.args.term.now c.self.inside.chains.entries
     (sym c.in-None.ensures.value) in
     ap (filter (is_live c.args.frames.now)) (c.new.ensures.items ∙ sym none)
 
