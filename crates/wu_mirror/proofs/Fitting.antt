@@ -4,7 +4,7 @@ use Rattle.std.proofs.Common.{◌&&◌, ◌||◌, ◌==◌, not, eqb, nat_eq, na
 use Rattle.std.proofs.Common.{true≢false, zero-le, le_antisymm, ltb-false, Option, None, Some, is_some, Result, Ok, Err, IfOk, IfNone, ◌⊎◌}
 use Rattle.std.specs.Cmp.{nat_eq_equiv}
 use Rattle.std.specs.List.{AllByRecursion, IsDistinct, list_all}
-use Rattle.std.proofs.lemmas.Bool.{eqb-false, ne_eqb, false≢true}
+use Rattle.std.proofs.lemmas.Bool.{eqb-true, eqb-false, ne_eqb, false≢true}
 use Rattle.std.proofs.lemmas.List.Sorted.{IsNonDecreasingBy-from_sort, IsPermutation-sym}
 use Rattle.std.proofs.lemmas.Map.Keys.{IsDistinct-IsPermutation, IsDistinct-from_apart, IsDistinct-head, IsDistinct-tail}
 use Rattle.wu_access.specs.declared.UserRec.{UserRec}
@@ -45,10 +45,6 @@ none_past true x o h = absurd (true≢false (ap is_some h))
 none_by : {X : Type 0} (b : Bool) (x : X) → cond b None (Some x) ≡ None → b ≡ true
 none_by true x h = refl
 none_by false x h = absurd (true≢false (ap is_some h))
-
-one_of : {X : Type 0} (b : Bool) (o p : Option X) → cond b o p ≡ None → (o ≡ None) ⊎ (p ≡ None)
-one_of true o p h = inl h
-one_of false o p h = inr h
 
 -- ---- numbers
 -- sorted numbers of which none is the next one's are distinct
@@ -104,25 +100,36 @@ short_if : {X : Type 0} (xs : List X) → is_empty xs ≡ true → length xs ≤
 short_if [] h = zero-le
 short_if (x ∷ xs) h = absurd (false≢true h)
 
-few_names : (kind : Kind) (going coming : ℕ) → has_many_names kind going coming ≡ false → kind ≡ Directory → going ≤ 1
+few_names : (kind : Kind) (going coming : ℕ) → has_many_names kind going coming ≡ false → kind ≡ Directory → (going ≤ 1) × (coming ≤ 1)
 few_names kind going coming h e =
     let d : has_many_names Directory going coming ≡ false = subst (λ (k : Kind). has_many_names k going coming ≡ false) e h in
-    ltb-false 1 going (neither (nat_lt 1 going) (nat_lt 1 coming) d).0
+    let n = neither (nat_lt 1 going) (nat_lt 1 coming) d in
+    (ltb-false 1 going n.0, ltb-false 1 coming n.1)
 
-once_if : (change : Change)
+-- what is asked of the names of the root, and of any other node
+names_if : (change : Change)
     → cond (change.ino == 1) (fault_of_root change) (fault_of_names change.kind change.fate (length change.going) (length change.coming)) ≡ None
-    → change.kind ≡ Directory → length change.going ≤ 1
-once_if change h e =
+    → (change.kind ≡ Directory → (length change.going ≤ 1) × (length change.coming ≤ 1))
+    × (change.ino ≢ 1 → is_named change.kind change.fate (length change.going) (length change.coming) ≡ true)
+names_if change h =
     let names = fault_of_names change.kind change.fate (length change.going) (length change.coming) in
-    ⊎_elim
-    (λ r.
-    let a = none_by (is_kept_directory change.kind change.fate && (is_empty change.going && is_empty change.coming)) Root r in
-    let b = both (is_kept_directory change.kind change.fate) (is_empty change.going && is_empty change.coming) a in
-    short_if change.going (both (is_empty change.going) (is_empty change.coming) b.1).0)
-    (λ n. few_names change.kind (length change.going) (length change.coming)
-    (none_past (has_many_names change.kind (length change.going) (length change.coming)) ManyNames
-    (cond (is_named change.kind change.fate (length change.going) (length change.coming)) None (Some Unnamed)) n).0 e)
-    (one_of (change.ino == 1) (fault_of_root change) names h)
+    elim (change.ino == 1) as (λ b. (change.ino == 1) ≡ b → cond b (fault_of_root change) names ≡ None
+    → (change.kind ≡ Directory → (length change.going ≤ 1) × (length change.coming ≤ 1))
+    × (change.ino ≢ 1 → is_named change.kind change.fate (length change.going) (length change.coming) ≡ true)) [
+      | true ↦ λ e r.
+          let a = none_by (is_kept_directory change.kind change.fate && (is_empty change.going && is_empty change.coming)) Root r in
+          let b = both (is_kept_directory change.kind change.fate) (is_empty change.going && is_empty change.coming) a in
+          let c = both (is_empty change.going) (is_empty change.coming) b.1 in (
+            (λ k. (short_if change.going c.0, short_if change.coming c.1)),
+            λ n. absurd (n (eqb-true change.ino 1 e)),
+          )
+      | false ↦ λ e n.
+          let a = none_past (has_many_names change.kind (length change.going) (length change.coming)) ManyNames
+          (cond (is_named change.kind change.fate (length change.going) (length change.coming)) None (Some Unnamed)) n in (
+            (λ k. few_names change.kind (length change.going) (length change.coming) a.0 k),
+            λ r. none_by (is_named change.kind change.fate (length change.going) (length change.coming)) Unnamed a.1,
+          )
+    ] refl h
 
 pub sound_if : (change : Change) → fault_of change ≡ None → IsSound change
 sound_if change h =
@@ -140,7 +147,9 @@ sound_if change h =
       apart = eqb-false change.ino CLOSED n.1;
       going = places_if change.going (it_is (list_all is_place change.going) p.0);
       coming = places_if change.coming (it_is (list_all is_place change.coming) p.1);
-      once = once_if change c.1;
+      once = λ k. ((names_if change c.1).0 k).0;
+      come_once = λ k. ((names_if change c.1).0 k).1;
+      named = (names_if change c.1).1;
     }
 
 -- ---- the batch

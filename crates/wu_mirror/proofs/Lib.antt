@@ -10,3 +10,15 @@ pub mod Giving
 pub mod Gone
 pub mod Whole
 pub mod Fitting
+pub mod Depths
+pub mod EventsAccepted
+pub mod RightsAccepted
+pub mod Pairs
+pub mod Ways
+pub mod OutItems
+pub mod Clearing
+pub mod InItems
+pub mod Placing
+pub mod Middle
+pub mod Accepting
+pub mod CarriedOut

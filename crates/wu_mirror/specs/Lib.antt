@@ -5,6 +5,8 @@ pub mod Searches
 -- the order of a batch, from what to what it leads, and the moments between
 pub mod Plans
 pub mod Moments
+-- what it takes that each event is accepted
+pub mod Acceptance
 -- what is checked of a batch alone
 pub mod Misfits
 -- ---- What private functions and proofs cite

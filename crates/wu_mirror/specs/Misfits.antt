@@ -3,6 +3,7 @@ use Rattle.std.specs.Prelude.{◌≡◌, ◌≢◌, ◌⊎◌, ◌≤◌, length
 use Rattle.std.specs.List.{AllByRecursion, IsDistinct}
 use Rattle.wu_tree.specs.declared.events.Kind.TheVariants.{Directory}
 use Rattle.wu_tree.specs.FileSystems.{is_name}
+use Rattle.wu_mirror.specs.Faults.{is_named}
 use Rattle.wu_mirror.specs.Moments.{AreApart, is_told}
 use Rattle.wu_mirror.specs.declared.batches.TheConstants.{CLOSED}
 use Rattle.wu_mirror.specs.declared.batches.Batch.{Batch}
@@ -13,13 +14,15 @@ use Rattle.wu_mirror.specs.declared.batches.Place.{Place}
 abbrev pub IsPlace : Place → Type 0
 IsPlace place = (place.parent ≢ CLOSED) × (place.parent ≢ 0) × (is_name place.name ≡ true)
 
--- what `IsTrueOf` asks of a change alone, and that its names are names
+-- what `IsTrueOf` asks of a change alone, that its names are names, and that so many come and go as its fate tells
 pub record IsSound (change : Change) : Type 0 where
   pub number : change.ino ≢ 0
   pub apart : change.ino ≢ CLOSED
   pub going : AllByRecursion IsPlace change.going
   pub coming : AllByRecursion IsPlace change.coming
   pub once : change.kind ≡ Directory → length change.going ≤ 1
+  pub come_once : change.kind ≡ Directory → length change.coming ≤ 1
+  pub named : change.ino ≢ 1 → is_named change.kind change.fate (length change.going) (length change.coming) ≡ true
 
 -- What `LeadsTo` asks of the batch alone: each node is there once, and where groups change the root is among the nodes. And each
 -- user is there once.

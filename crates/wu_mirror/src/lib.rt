@@ -12,7 +12,7 @@ mod rights;
 pub use batches::{Batch, CLOSED, Change, Fate, ListChange, Owners, Place, Plan, RightsChange};
 pub use checks::{Fault, Misfit, find_misfit};
 pub use laws::{
-    a_batch_leaves_what_it_tells, a_shut_root_shows_nothing, a_view_grows_with_names_and_rights,
-    nobody_finds_more,
+    a_batch_is_carried_out, a_batch_leaves_what_it_tells, a_shut_root_shows_nothing,
+    a_view_grows_with_names_and_rights, each_event_is_accepted, nobody_finds_more,
 };
 pub use plans::plan;
