@@ -1,5 +1,5 @@
 -- The three laws in one.
-use Rattle.std.proofs.Common.{◌≡◌, ◌≢◌, ℕ, List, [], ◌∷◌, ◌++◌, ap, sym, ◌∙◌, subst, append_assoc}
+use Rattle.std.proofs.Common.{◌≡◌, List, [], ◌∷◌, ◌++◌, ap, sym, ◌∙◌, subst, append_assoc}
 use Rattle.std.proofs.lemmas.List.{append-nil}
 use Rattle.std.specs.List.{AllByRecursion}
 use Rattle.wu_access.specs.Access.{IsDecidedByCases}
@@ -7,7 +7,7 @@ use Rattle.wu_tree.specs.declared.events.Event.{Event}
 use Rattle.wu_tree.specs.FileSystems.{FileSystem}
 use Rattle.wu_tree.specs.Steps.{next}
 use Rattle.wu_mirror.specs.declared.batches.Batch.{Batch}
-use Rattle.wu_mirror.specs.Acceptance.{AreAccepted, Always, HasRoom, IsCarriedOut, IsOrdered, IsTextIn, NeverShowsMore, after_all}
+use Rattle.wu_mirror.specs.Acceptance.{AreAccepted, Always, HasRoom, IsCarriedOut, IsOrdered, IsTextIn, after_all}
 use Rattle.wu_mirror.specs.Misfits.{Fits}
 use Rattle.wu_mirror.specs.Moments.{AgreesOutside, AtEach, AtLast, FindsNoMore, FindsNoNewText, IsText, LeadsTo, TellsAllNames}
 use Rattle.wu_mirror.specs.Plans.{head_of, placed_in, removed_in, tail_of, taken_in}

@@ -1,8 +1,7 @@
 -- The names that go, one after the other: each event is accepted.
-use Rattle.std.proofs.Common.{◌≡◌, ◌≢◌, ℕ, ◌+◌, ◌-◌, ◌<◌, ◌≤◌, ◌^◌, suc, List, [], ◌∷◌, ◌++◌, refl, ap, sym, ◌∙◌, subst, Bool, true, false, not, arith}
+use Rattle.std.proofs.Common.{◌≡◌, ◌≢◌, ℕ, ◌+◌, ◌-◌, ◌<◌, ◌^◌, List, [], ◌∷◌, ◌++◌, refl, ap, sym, ◌∙◌, subst, Bool, true, false, not, arith}
 use Rattle.std.proofs.Common.{inl, inr, ⊎_elim}
-use Rattle.std.specs.Prelude.{◌⊎◌, ◌==◌, Option, None, Some, is_some, decimal, map}
-use Rattle.std.specs.List.{AllByRecursion}
+use Rattle.std.specs.Prelude.{◌⊎◌, ◌==◌, None, Some, decimal, map}
 use Rattle.std.specs.Map.{lookup, remove_entry}
 use Rattle.std.specs.BTreeMap.{is_at}
 use Rattle.std.proofs.lemmas.Bool.{eqb-true}
@@ -30,8 +29,8 @@ use Rattle.wu_mirror.specs.Moments.{GoesFrom, HasFate, IsName, IsTrueOf, LeadsTo
 use Rattle.wu_mirror.proofs.Depths.{bounded, closed_depth, deeper, facts, not_above, reaches_there}
 use Rattle.wu_mirror.proofs.EventsAccepted.{number_is_name, rename_taken, rmdir_taken, unlink_taken}
 use Rattle.wu_mirror.proofs.Gone.{never, none_if}
-use Rattle.wu_mirror.proofs.Lookups.{KeepsNodes, link_removed, put_in, put_itself, put_keeps, same_some, still_in, taken_itself, taken_out}
-use Rattle.wu_mirror.proofs.OutItems.{AsideAt, FileOut, IsOut, LeaveOut, MoveOut, PairOut, out_change}
+use Rattle.wu_mirror.proofs.Lookups.{link_removed, put_in, put_itself, put_keeps, same_some, still_in, taken_itself, taken_out}
+use Rattle.wu_mirror.proofs.OutItems.{AsideAt, IsOut, LeaveOut, PairOut, out_change}
 use Rattle.wu_mirror.proofs.Pairs.{Pairwise}
 use Rattle.wu_mirror.proofs.Parts.{node_there, tree_kept}
 use Rattle.wu_mirror.proofs.ViewGrowth.{directory_there}

@@ -1,17 +1,16 @@
 -- Depths in a file system most of whose names are those of another: no directory lies much deeper, or within another one.
 use Rattle.std.proofs.Common.{◌≡◌, ◌≢◌, ℕ, zero, suc, ◌+◌, ◌-◌, length, ◌<◌, ◌≤◌, List, [], ◌∷◌, refl, ap, sym, ◌∙◌, subst, Bool, true, false, not, arith}
-use Rattle.std.specs.Prelude.{◌&&◌, ◌||◌, ◌==◌, None, Some, nat_lt}
-use Rattle.std.specs.List.{list_any}
+use Rattle.std.specs.Prelude.{◌&&◌, ◌||◌, ◌==◌, Some, nat_lt}
 use Rattle.std.proofs.lemmas.Bool.{and_parts, and_from, or_right, eqb-true, eqb-false, ne_eqb, eq-eqb, ltb-true}
 use Rattle.wu_tree.specs.declared.events.Node.{Node}
-use Rattle.wu_tree.specs.FileSystems.{FileSystem, Link, child_of, depth, is_directory, is_directory_node, is_kind_file, is_there, is_within, link_count}
+use Rattle.wu_tree.specs.FileSystems.{FileSystem, child_of, depth, is_directory, is_directory_node, is_kind_file, is_there, is_within, link_count}
 use Rattle.wu_tree.specs.FileSystems.{node_of, parent_of, path_up, ancestors}
 use Rattle.wu_tree.specs.Rules.{IsLink, IsTree}
 use Rattle.wu_tree.specs.Steps.{is_too_deep}
 use Rattle.wu_tree.specs.Paths.{children_of, reaches, through}
 use Rattle.wu_tree.proofs.ParentPaths.{has_root, path_is, path_of_root, reached}
 use Rattle.wu_tree.proofs.PathsUp.{steps_and_rest, walk_met}
-use Rattle.wu_tree.proofs.PathsDown.{child_has, child_parent, deep_by_levels, has_child, linked_once, only_link}
+use Rattle.wu_tree.proofs.PathsDown.{child_has, deep_by_levels, has_child, linked_once, only_link}
 use Rattle.wu_base.proofs.MapEntries.{all_found}
 use Rattle.wu_base.proofs.Members.{Has, all_has, any_has, has_any}
 use Rattle.wu_view.proofs.LinkPaths.{depth_below, depth_range, link_facts, root_depth, some_link, way_up}

@@ -1,16 +1,15 @@
 -- What it takes that a tree accepts an event of a batch.
-use Rattle.std.proofs.Common.{◌≡◌, ◌≢◌, ℕ, ◌+◌, ◌%◌, ◌<◌, ◌≤◌, ◌^◌, List, [], ◌∷◌, ◌++◌, length, refl, ap, sym, ◌∙◌, subst, Bool, true, false, cond, not, arith}
-use Rattle.std.proofs.Common.{inl, inr, ⊎_elim}
-use Rattle.std.specs.Prelude.{◌⊎◌, ◌&&◌, ◌||◌, ◌==◌, Option, None, Some, is_some, decimal, nat_lt, nat_le, nat_eq}
+use Rattle.std.proofs.Common.{◌≡◌, ℕ, ◌+◌, ◌%◌, ◌<◌, ◌≤◌, ◌^◌, List, [], ◌∷◌, ◌++◌, length, refl, ap, sym, ◌∙◌, subst, Bool, true, false, cond, not, arith}
+use Rattle.std.specs.Prelude.{◌&&◌, ◌||◌, ◌==◌, Option, None, Some, is_some, decimal, nat_lt, nat_le, nat_eq}
 use Rattle.std.specs.Cmp.Lexicographic.{pointwise}
-use Rattle.std.specs.List.{AllByRecursion, list_all}
+use Rattle.std.specs.List.{AllByRecursion}
 use Rattle.std.proofs.lemmas.Fmt.{decimal_by_steps, length-decimal-le}
 use Rattle.std.proofs.lemmas.Bool.{ne_eqb, le-leb, lt-leb, lt-ltb}
 use Rattle.wu_tree.specs.declared.events.Event.TheVariants.{Mkdir, Create, Link, Unlink, Rmdir, Rename}
 use Rattle.wu_tree.specs.declared.events.Node.{Node}
 use Rattle.wu_access.specs.declared.Perm.{Perm}
 use Rattle.wu_tree.specs.FileSystems.{FileSystem, are_name_bytes, child_of, depth, has_entries, is_directory, is_directory_node, is_dots, is_file, is_file_node}
-use Rattle.wu_tree.specs.FileSystems.{is_kind_file, is_name, is_name_length, is_there, is_used, is_within, node_of}
+use Rattle.wu_tree.specs.FileSystems.{is_kind_file, is_name, is_there, is_used, is_within, node_of}
 use Rattle.wu_tree.specs.Rules.{IsTree}
 use Rattle.wu_tree.specs.Steps.{Rule, absent_rules, create_rules, first_of, is_link_to, is_too_deep, link_rules, mkdir_rules, move_rules, named, refusal_of}
 use Rattle.wu_tree.specs.Steps.{rename_rules, rmdir_rules, unlink_rules}

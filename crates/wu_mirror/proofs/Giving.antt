@@ -37,7 +37,8 @@ use Rattle.wu_mirror.proofs.Lookups.{ChangesRights, acl_put, acl_removed, perm_c
 use Rattle.wu_mirror.proofs.Parts.{IsPartOf, node_there, shows_after, tree_kept}
 use Rattle.wu_mirror.proofs.TakingRights.{LeftBy}
 use Rattle.wu_mirror.proofs.Taking.{one_change, truth}
-use Rattle.wu_mirror.proofs.Coming.{Back, Coming, IsReady, ReadyBy, closed, untold}
+use Rattle.wu_mirror.proofs.AllNames.{Back}
+use Rattle.wu_mirror.proofs.Coming.{Coming, IsReady, ReadyBy, closed, untold}
 
 -- ---- modes
 -- where classes change nothing is left of a mode

@@ -1,14 +1,13 @@
 -- What the names are that come, and in which order.
-use Rattle.std.proofs.Common.{◌≡◌, ◌≢◌, ℕ, ◌<◌, ◌≤◌, List, [], ◌∷◌, ◌++◌, length, refl, ap, sym, ◌∙◌, subst, Bool, true, false, inl, inr, ⊎_elim, arith}
-use Rattle.std.specs.Prelude.{◌⊎◌, ◌||◌, ◌&&◌, ◌==◌, Option, None, Some, is_some, nat_lt, cond, map, not}
-use Rattle.std.specs.List.{AllByRecursion, flat_map}
+use Rattle.std.proofs.Common.{◌≡◌, ◌≢◌, List, [], ◌∷◌, length, refl, ap, sym, ◌∙◌, subst, Bool, true, false, inl, inr, ⊎_elim, arith}
+use Rattle.std.specs.Prelude.{◌⊎◌, ◌||◌, ◌&&◌, ◌==◌, Option, Some, is_some, nat_lt, cond}
 use Rattle.std.proofs.lemmas.Bool.{and_parts, eqb-true}
 use Rattle.wu_access.specs.declared.acls.Acl.{Acl}
 use Rattle.wu_access.specs.declared.Perm.{Perm}
 use Rattle.wu_tree.specs.declared.events.Kind.{Kind}
 use Rattle.wu_tree.specs.declared.events.Kind.TheVariants.{Directory, File}
 use Rattle.wu_tree.specs.declared.events.Node.{Node}
-use Rattle.wu_tree.specs.FileSystems.{FileSystem, child_of, is_directory, is_there, node_of}
+use Rattle.wu_tree.specs.FileSystems.{FileSystem, is_directory, is_there, node_of}
 use Rattle.wu_base.proofs.Members.{Has, Has-append_cases, Has-append_left, Has-append_right, Has-flat_map, Has-map, all_has, flat_map_has, map_has}
 use Rattle.wu_mirror.specs.declared.batches.Batch.{Batch}
 use Rattle.wu_mirror.specs.declared.batches.Change.{Change}
@@ -17,16 +16,15 @@ use Rattle.wu_mirror.specs.declared.batches.Fate.TheVariants.{Stays, Made, Goes}
 use Rattle.wu_mirror.specs.declared.batches.Place.{Place}
 use Rattle.wu_mirror.specs.declared.batches.RightsChange.{RightsChange}
 use Rattle.wu_mirror.specs.Acceptance.{IsElsewhere, IsOrdered, NamesOnce, stands_at}
-use Rattle.wu_mirror.specs.Faults.{is_named, keeps_its_name}
+use Rattle.wu_mirror.specs.Faults.{is_named}
 use Rattle.wu_mirror.specs.Misfits.{Fits, IsSound}
 use Rattle.wu_mirror.specs.Moments.{HasFate, IsName, IsTrueOf, LeadsTo, node_with}
 use Rattle.wu_mirror.specs.Plans.{first_perm, groups_change, is_empty, is_shut}
-use Rattle.wu_mirror.proofs.Clearing.{directory_by, kind_by}
+use Rattle.wu_mirror.proofs.Clearing.{kind_by}
 use Rattle.wu_mirror.proofs.Depths.{facts}
-use Rattle.wu_mirror.proofs.Lookups.{same_some}
 use Rattle.wu_mirror.proofs.Pairs.{Pairwise, pair_append, pair_flat}
 use Rattle.wu_mirror.proofs.TakingRights.{apart_same}
-use Rattle.wu_mirror.proofs.Ways.{Item, Precedes, Way, all_precede, come_way, directories_in, directory_ins, file_ins, files_in, first_then, ins, item, items_by}
+use Rattle.wu_mirror.proofs.Ways.{Item, Precedes, Way, all_precede, come_way, directories_in, directory_ins, file_ins, files_in, first_then, ins, item}
 use Rattle.wu_mirror.proofs.Ways.{none_in_itself, of_first, pair_first, pair_short, Linked, Brought, NewDirectory, NewFile}
 
 -- by which a node is made

@@ -6,6 +6,8 @@ pub mod TakingRights
 pub mod Taking
 pub mod Removing
 pub mod Coming
+pub mod Arrivals
+pub mod AllNames
 pub mod Giving
 pub mod Gone
 pub mod Whole

@@ -1,27 +1,18 @@
 -- Where the names that go begin to go, and where they are gone and those that come begin to come.
-use Rattle.std.proofs.Common.{◌≡◌, ◌≢◌, ℕ, ◌*◌, ◌<◌, ◌≤◌, List, [], ◌∷◌, ◌++◌, refl, ap, sym, ◌∙◌, subst, Bool, true, false, cond, not, arith}
-use Rattle.std.proofs.Common.{inl, inr, ⊎_elim, append_assoc}
-use Rattle.std.proofs.lemmas.List.{append-nil}
-use Rattle.std.specs.Prelude.{◌⊎◌, ◌==◌, ◌||◌, Option, None, Some, is_some, IfSome, decimal, map}
-use Rattle.std.specs.Int.Bits.{bit_and}
+use Rattle.std.proofs.Common.{◌≡◌, ◌≢◌, ℕ, ◌≤◌, List, [], ◌∷◌, refl, ap, sym, ◌∙◌, subst, Bool, true, false, not, arith}
+use Rattle.std.proofs.Common.{inl, inr, ⊎_elim}
+use Rattle.std.specs.Prelude.{◌⊎◌, ◌==◌, Option, None, Some, is_some, decimal}
 use Rattle.std.specs.Ordering.{nat_cmp}
-use Rattle.std.specs.List.{AllByRecursion, flat_map}
-use Rattle.std.specs.List.Sorted.{IsStrictlySortedBy}
 use Rattle.std.specs.Map.{lookup}
-use Rattle.std.proofs.lemmas.Nat.{and_le_l}
 use Rattle.std.specs.BTreeMap.{is_at}
 use Rattle.std.proofs.lemmas.Bool.{eq-eqb, eqb-true, eqb-false}
 use Rattle.wu_access.specs.declared.acls.Acl.{Acl}
 use Rattle.wu_access.specs.declared.Perm.{Perm}
-use Rattle.wu_access.specs.declared.UserRec.{UserRec}
-use Rattle.wu_access.specs.Access.{IsAcl, group_digit}
-use Rattle.wu_tree.specs.declared.events.Event.{Event}
-use Rattle.wu_tree.specs.declared.events.Event.TheVariants.{Chmod}
 use Rattle.wu_tree.specs.declared.events.Kind.{Kind}
 use Rattle.wu_tree.specs.declared.events.Kind.TheVariants.{Directory, File}
 use Rattle.wu_tree.specs.declared.events.Node.{Node}
-use Rattle.wu_tree.specs.FileSystems.{FileSystem, Link, acl_of, child_of, is_directory, is_file, is_file_node, is_kind_file, is_there, link_count, node_of, place_cmp}
-use Rattle.wu_tree.specs.Rules.{Hangs, IsAclOf, IsTree}
+use Rattle.wu_tree.specs.FileSystems.{FileSystem, Link, child_of, is_there, link_count, node_of, place_cmp}
+use Rattle.wu_tree.specs.Rules.{Hangs, IsTree}
 use Rattle.wu_tree.proofs.ParentPaths.{same_number}
 use Rattle.wu_base.proofs.MapEntries.{All-found}
 use Rattle.wu_base.proofs.Members.{Has, Contains-from_Has, Has-from_Contains, all_has, any_has, has_any}
@@ -31,29 +22,24 @@ use Rattle.wu_mirror.specs.declared.batches.Batch.{Batch}
 use Rattle.wu_mirror.specs.declared.batches.Change.{Change}
 use Rattle.wu_mirror.specs.declared.batches.Fate.{Fate}
 use Rattle.wu_mirror.specs.declared.batches.Fate.TheVariants.{Stays, Made, Goes}
-use Rattle.wu_mirror.specs.declared.batches.ListChange.{ListChange}
-use Rattle.wu_mirror.specs.declared.batches.ListChange.TheVariants.{Same, Set, Removed}
-use Rattle.wu_mirror.specs.declared.batches.Owners.{Owners}
 use Rattle.wu_mirror.specs.declared.batches.Place.{Place}
 use Rattle.wu_mirror.specs.declared.batches.RightsChange.{RightsChange}
-use Rattle.wu_mirror.specs.Acceptance.{AreAccepted, HasOther, HasRoom, IsOrdered, IsTextIn}
+use Rattle.wu_mirror.specs.Acceptance.{HasOther, HasRoom, IsOrdered}
 use Rattle.wu_mirror.specs.Misfits.{Fits}
-use Rattle.wu_mirror.specs.Moments.{ComesTo, GoesFrom, HasFate, IsKept, IsMade, IsName, IsTrueOf, LeadsTo, TellsAllNames, is_told, list_after, node_with}
+use Rattle.wu_mirror.specs.Moments.{GoesFrom, HasFate, IsKept, IsMade, IsName, IsTrueOf, LeadsTo, TellsAllNames, is_told, node_with}
 use Rattle.wu_mirror.specs.Moments.{perm_after}
-use Rattle.wu_mirror.specs.Plans.{given, given_from, groups_change, groups_set, head_of, is_shut, keeps_classes, left_mode, list_given, list_set, made_given, mode_set, mode_then}
-use Rattle.wu_mirror.specs.Plans.{nobody, owners_given, placed_in, removed_in, tail_of, taken, taken_from, taken_in, first_mode}
-use Rattle.wu_mirror.proofs.Clearing.{Clearing, clear_all, not_so}
+use Rattle.wu_mirror.proofs.Clearing.{Clearing, not_so}
 use Rattle.wu_mirror.proofs.Depths.{facts}
 use Rattle.wu_mirror.proofs.Gone.{never, none_if}
-use Rattle.wu_mirror.proofs.InItems.{IsIn, IsNew, brought_at, each_in, in_pairs, made_at, no_other}
+use Rattle.wu_mirror.proofs.InItems.{IsIn, IsNew, brought_at, each_in, made_at, no_other}
 use Rattle.wu_mirror.proofs.Lookups.{same_some}
-use Rattle.wu_mirror.proofs.OutItems.{AsideAt, IsOut, aside_stays, directory_aside, each_out, file_aside, out_at, out_change, out_pairs}
+use Rattle.wu_mirror.proofs.OutItems.{AsideAt, IsOut, aside_stays, directory_aside, each_out, file_aside, out_at, out_change}
 use Rattle.wu_mirror.proofs.Parts.{node_there}
-use Rattle.wu_mirror.proofs.Placing.{Placing, numbered_at, place_all}
-use Rattle.wu_mirror.proofs.RightsAccepted.{IsAlike, Leaves, alike_there, all_taken, kind_in}
+use Rattle.wu_mirror.proofs.Placing.{Placing}
+use Rattle.wu_mirror.proofs.RightsAccepted.{IsAlike, kind_in}
 use Rattle.wu_mirror.proofs.TakingRights.{apart_same}
 use Rattle.wu_mirror.proofs.ViewGrowth.{directory_there}
-use Rattle.wu_mirror.proofs.Ways.{Item, event_of, in_events, ins, out_events, outs, Brought, SetAside}
+use Rattle.wu_mirror.proofs.Ways.{Item, ins, outs, Brought, SetAside}
 
 -- ---- kinds
 kind_back : (o p : Option Node) → kind_in o ≡ kind_in p → (node : Node) → o ≡ Some node → (other : Node) × (p ≡ Some other) × (other.kind ≡ node.kind)

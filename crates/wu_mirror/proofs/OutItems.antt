@@ -1,9 +1,8 @@
 -- What the names are that go, and in which order.
-use Rattle.std.proofs.Common.{◌≡◌, ◌≢◌, ℕ, ◌≤◌, List, [], ◌∷◌, ◌++◌, length, refl, ap, sym, ◌∙◌, subst, Bool, true, false, inl, inr, ⊎_elim}
-use Rattle.std.specs.Prelude.{◌⊎◌, Option, map, reverse}
+use Rattle.std.proofs.Common.{◌≡◌, ◌≢◌, List, [], ◌∷◌, ◌++◌, refl, ap, sym, ◌∙◌, subst, Bool, true, false, inl, inr, ⊎_elim}
+use Rattle.std.specs.Prelude.{◌⊎◌, Option, reverse}
 use Rattle.wu_access.specs.declared.acls.Acl.{Acl}
 use Rattle.wu_access.specs.declared.Perm.{Perm}
-use Rattle.std.specs.List.{AllByRecursion, flat_map}
 use Rattle.wu_tree.specs.declared.events.Kind.{Kind}
 use Rattle.wu_tree.specs.declared.events.Kind.TheVariants.{Directory, File}
 use Rattle.wu_tree.specs.FileSystems.{FileSystem}
@@ -18,7 +17,7 @@ use Rattle.wu_mirror.specs.Acceptance.{IsElsewhere, IsOrdered, NamesOnce, stands
 use Rattle.wu_mirror.specs.Moments.{IsTrueOf, LeadsTo}
 use Rattle.wu_mirror.proofs.Pairs.{Has-reverse, Pairwise, pair_append, pair_flat, pair_reverse, reverse_has}
 use Rattle.wu_mirror.proofs.TakingRights.{apart_same}
-use Rattle.wu_mirror.proofs.Ways.{Item, Precedes, Way, all_precede, file_outs, files_out, first_then, gone_way, item, items_by, leave_outs, leaves_out}
+use Rattle.wu_mirror.proofs.Ways.{Item, Precedes, Way, all_precede, file_outs, files_out, first_then, gone_way, item, leave_outs, leaves_out}
 use Rattle.wu_mirror.proofs.Ways.{move_outs, moves_out, none_in_itself, of_first, outs, pair_first, pair_short, Unlinked, Removed, SetAside}
 
 -- of two names that go, the one before the other

@@ -1,6 +1,6 @@
 -- Lists of which each item is in a relation to those behind it.
-use Rattle.std.proofs.Common.{◌≡◌, List, [], ◌∷◌, ◌++◌, refl, ap, sym, ◌∙◌, subst, inl, inr, ⊎_elim}
-use Rattle.std.specs.Prelude.{◌⊎◌, map, reverse}
+use Rattle.std.proofs.Common.{List, [], ◌∷◌, ◌++◌, refl, sym, subst, inl, inr, ⊎_elim}
+use Rattle.std.specs.Prelude.{◌⊎◌, reverse}
 use Rattle.std.specs.List.{flat_map}
 use mathlib.Core.List.{reverse-cons}
 use Rattle.wu_base.proofs.Members.{Has, Has-append_cases, Has-append_left, Has-append_right, flat_map_has}

@@ -1,17 +1,15 @@
 -- The names that come, one after the other: each event is accepted.
-use Rattle.std.proofs.Common.{◌≡◌, ◌≢◌, ℕ, ◌+◌, ◌-◌, ◌<◌, ◌≤◌, ◌^◌, suc, List, [], ◌∷◌, ◌++◌, refl, ap, sym, ◌∙◌, subst, Bool, true, false, cond, not, arith}
+use Rattle.std.proofs.Common.{◌≡◌, ◌≢◌, ℕ, ◌+◌, ◌-◌, ◌<◌, ◌≤◌, ◌^◌, List, [], ◌∷◌, ◌++◌, refl, ap, sym, ◌∙◌, subst, Bool, true, false, cond, arith}
 use Rattle.std.proofs.Common.{inl, inr, ⊎_elim}
 use Rattle.std.specs.Prelude.{◌⊎◌, ◌==◌, ◌||◌, Option, None, Some, is_some, decimal, map}
 use Rattle.std.specs.Ordering.{is_eq, nat_cmp}
 use Rattle.std.specs.Cmp.{nat_cmp_total}
-use Rattle.std.specs.List.{AllByRecursion}
-use Rattle.std.specs.Map.{lookup, remove_entry}
+use Rattle.std.specs.Map.{remove_entry}
 use Rattle.std.specs.BTreeMap.{is_at}
 use Rattle.std.proofs.lemmas.Bool.{eq-eqb, eqb-true, eqb-false}
 use Rattle.wu_access.specs.declared.acls.Acl.{Acl}
 use Rattle.wu_access.specs.declared.Perm.{Perm}
 use Rattle.wu_tree.specs.declared.events.Event.{Event}
-use Rattle.wu_tree.specs.declared.events.Kind.{Kind}
 use Rattle.wu_tree.specs.declared.events.Kind.TheVariants.{Directory, File}
 use Rattle.wu_tree.specs.declared.events.Node.{Node}
 use Rattle.wu_tree.specs.FileSystems.{FileSystem, Link, child_of, depth, is_directory, is_directory_node, is_file, is_file_node, is_kind_file, is_name, is_there}
@@ -27,18 +25,18 @@ use Rattle.wu_base.proofs.Members.{Has, all_has}
 use Rattle.wu_mirror.specs.declared.batches.Batch.{Batch}
 use Rattle.wu_mirror.specs.declared.batches.Change.{Change}
 use Rattle.wu_mirror.specs.declared.batches.Fate.{Fate}
-use Rattle.wu_mirror.specs.declared.batches.Fate.TheVariants.{Stays, Made, Goes}
+use Rattle.wu_mirror.specs.declared.batches.Fate.TheVariants.{Made}
 use Rattle.wu_mirror.specs.declared.batches.Place.{Place}
 use Rattle.wu_mirror.specs.Acceptance.{AreAcceptedTo, HasRoom, IsOrdered}
 use Rattle.wu_mirror.specs.Misfits.{Fits}
 use Rattle.wu_mirror.specs.Moments.{HasFate, IsMade, IsName, IsTrueOf, LeadsTo, node_with}
-use Rattle.wu_mirror.specs.Plans.{first_mode, first_perm}
+use Rattle.wu_mirror.specs.Plans.{first_perm}
 use Rattle.wu_mirror.proofs.Clearing.{directory_by, kind_by, not_so}
 use Rattle.wu_mirror.proofs.Depths.{bounded, deeper, facts, near, not_within, reaches_there}
-use Rattle.wu_mirror.proofs.EventsAccepted.{create_taken, link_taken, mkdir_taken, number_is_name, rename_taken}
+use Rattle.wu_mirror.proofs.EventsAccepted.{create_taken, link_taken, mkdir_taken, rename_taken}
 use Rattle.wu_mirror.proofs.Gone.{never, none_if}
 use Rattle.wu_mirror.proofs.InItems.{IsIn, IsNew, PairIn, brought_new, kind_after, linked_new, shut}
-use Rattle.wu_mirror.proofs.Lookups.{put_in, put_itself, put_keeps, same_some, still_in, taken_itself, taken_out}
+use Rattle.wu_mirror.proofs.Lookups.{put_in, put_keeps, same_some, still_in, taken_itself, taken_out}
 use Rattle.wu_mirror.proofs.Pairs.{Pairwise}
 use Rattle.wu_mirror.proofs.Parts.{node_there, tree_kept}
 use Rattle.wu_mirror.proofs.ViewGrowth.{directory_there}

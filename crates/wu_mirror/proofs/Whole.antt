@@ -13,7 +13,9 @@ use Rattle.wu_mirror.specs.declared.batches.Batch.{Batch}
 use Rattle.wu_mirror.specs.Plans.{head_of, placed_in, removed_in, tail_of, taken_in}
 use Rattle.wu_mirror.specs.Moments.{AgreesOutside, AtEach, AtLast, FindsNoMore, FindsNoNewText, IsText, LeadsTo, ShowsNoMore, StandsOutside}
 use Rattle.wu_mirror.specs.Moments.{TellsAllNames, is_told}
-use Rattle.wu_mirror.proofs.Coming.{Coming, all_back, from_middle, in_all, placed_are_ins, texts_given, told}
+use Rattle.wu_mirror.proofs.AllNames.{all_back, placed_are_ins}
+use Rattle.wu_mirror.proofs.Arrivals.{in_all}
+use Rattle.wu_mirror.proofs.Coming.{Coming, from_middle, texts_given, told}
 use Rattle.wu_mirror.proofs.Giving.{Giving, giving_shows, rights_given}
 use Rattle.wu_mirror.proofs.Gone.{never, none_if, up_to_the_middle}
 use Rattle.wu_mirror.proofs.Parts.{node_there}
