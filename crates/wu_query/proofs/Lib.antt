@@ -4,6 +4,7 @@ pub mod FetchedLists
 pub mod PassedCauses
 pub mod FramesOfFiles
 pub mod NearLists
+pub mod NearGroups
 pub mod UnitsOfFrames
 pub mod AskedTerms
 pub mod Places

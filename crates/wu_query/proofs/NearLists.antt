@@ -23,7 +23,7 @@ use Rattle.wu_solve.specs.Solving.{frame_hits, frames_hits, moved}
 use Rattle.wu_solve.proofs.Needing.{none_without}
 use Rattle.wu_solve.proofs.OneTerm.{none_of_term}
 use Rattle.wu_solve.proofs.Results.{hits_alike}
-use Rattle.wu_query.specs.Near.{HaveSameExtents, IsNeededAt, cut_to}
+use Rattle.wu_query.specs.Near.{HaveSameExtents, IsNeededAt, cut_to, whole}
 use Rattle.wu_query.specs.Units.{IsAmong, list_at}
 use Rattle.wu_query.specs.declared.near.GatheredTerm.{GatheredTerm}
 use Rattle.wu_query.proofs.FramesOfFiles.{lists_have}
@@ -59,16 +59,13 @@ module _ (p : ℕ → Bool) (address : ℕ) where
 
 -- ---- lists that are cut
 
-abbrev whole : GatheredTerm → TermList
-whole gathered = record { term = gathered.term; at = gathered.at }
-
 and_none : (b : Bool) → (b && false) ≡ false
 and_none true = refl
 and_none false = refl
 
 module _ (frames : List Range) (term : List ℕ) (address : ℕ) where
   -- of an address in the frames they tell what all lists tell
-  cut_has : (gathered : List GatheredTerm) → is_live frames address ≡ true
+  pub cut_has : (gathered : List GatheredTerm) → is_live frames address ≡ true
       → has_address (map (cut_to frames) gathered) term address ≡ has_address (map whole gathered) term address
   cut_has [] live = refl
   cut_has (one ∷ gathered) live =
@@ -90,7 +87,7 @@ inside : (frame : Range) (address : ℕ) → frame.start ≤ address → address
 inside frame address low high =
     and_from (leb frame.start address) _ (le-leb frame.start address low) (lt-ltb address (frame.start + frame.len) high)
 
-live_in : (frames : List Range) (frame : Range) (address : ℕ) → Has frame frames → frame.start ≤ address
+pub live_in : (frames : List Range) (frame : Range) (address : ℕ) → Has frame frames → frame.start ≤ address
     → address < frame.start + frame.len → is_live frames address ≡ true
 live_in frames frame address has low high =
     has_any (λ (range : Range). is_in range address) frame frames has (inside frame address low high)
@@ -210,7 +207,7 @@ same_of region frames found {items = items} {terms} lists_are asked_are same =
 -- ---- the frames that have a needed term
 
 -- a word that is among the terms is one of them
-among_has : (terms : List (List ℕ)) (word : List ℕ) → IsAmong terms word → Contains terms word
+pub among_has : (terms : List (List ℕ)) (word : List ℕ) → IsAmong terms word → Contains terms word
 among_has terms word among =
     let one = any_has (pointwise nat_eq word) terms among in
     subst (Contains terms) (sym (same_text word one.0 (sym one.1.1))) (Contains-from_Has one.0 terms one.1.0)

@@ -12,7 +12,7 @@ ghost use Rattle.wu_query.specs.Searched.{Indexes, TellsPostings};
 ghost use Rattle.wu_query.specs.Units.{CanBeSearched, IsCauseFor};
 ghost use Rattle.wu_query.specs.View.{view_of};
 
-use crate::near::lists_near;
+use crate::postings::postings_near;
 use std::alloc::Global;
 use wu_ask::Answered;
 use wu_base::Trouble;
@@ -20,10 +20,10 @@ use wu_frames::Frames;
 use wu_gcl::{Expr, terms_of};
 use wu_outside::Store;
 use wu_parts::Parts;
-use wu_solve::{count_apart, only_term};
+use wu_solve::only_term;
 
 /// How many extents the expression has over the user's view, and in how many of its files. They are
-/// made of the lists of its terms, as far as these are needed, where it isn't a term alone.
+/// made of the postings of its terms, as far as these are needed, where it isn't a term alone.
 pub fn count<D: Store>(
     alloc: Global,
     store: &mut D,
@@ -45,8 +45,8 @@ pub fn count<D: Store>(
         return count_term(store, frames, parts, term);
     }
     let terms = terms_of(alloc, expr)?;
-    let lists = lists_near(alloc, store, expr, &terms, frames, parts)?;
-    let counts = count_apart(alloc, expr, frames.ranges.as_slice(), &lists)?;
+    let postings = postings_near(alloc, store, expr, &terms, frames, parts)?;
+    let counts = postings.count(alloc, expr, frames.ranges.as_slice())?;
     Ok(Answered::Count {
         hits: counts.hits,
         files: counts.files,

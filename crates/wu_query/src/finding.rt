@@ -6,13 +6,13 @@ ghost use Rattle.wu_base.specs.declared.limits.TheConstants.{TEXT_MAX};
 ghost use Rattle.wu_gcl.specs.Regions.{region_of};
 ghost use Rattle.wu_outside.specs.Reading.{OnlyReads};
 ghost use Rattle.wu_snip.specs.Snippets.{IsAscending, IsWithin, snippet_of};
-ghost use Rattle.wu_solve.specs.Addresses.{AreLists};
 ghost use Rattle.wu_space.specs.Addresses.{Ranges};
 ghost use Rattle.wu_view.specs.declared.Seen.{Seen};
 ghost use Rattle.wu_query.specs.Answer.{answer, found_line};
 ghost use Rattle.wu_query.specs.Asked.{blocks_for, terms_of as named_in};
 ghost use Rattle.wu_query.specs.Causes.{IsBrokenIn, IsDamagedOver};
 ghost use Rattle.wu_query.specs.Finding.{AreFirstOf, AreTextsOf, AreWithin, CanBeRead, IsBelow, IsCause, IsQueryCause, KeepsTexts, counted_from, extents_of, files_at, hits_at, lines_at, lines_of_record, looked_through, text_at, IsBrokenShown};
+ghost use Rattle.wu_query.specs.Near.{CanBeSolved, lists_found};
 ghost use Rattle.wu_query.specs.Permitted.{AreReadForQuery, ReadsSuch};
 ghost use Rattle.wu_query.specs.Reads.{HasWholeText, IsTextOf, ReadsInTurn, texts_shown, whole_text};
 ghost use Rattle.wu_query.specs.Records.{record_at};
@@ -23,19 +23,18 @@ ghost use Rattle.wu_query.specs.View.{view_of};
 
 use crate::listing::path_at;
 use crate::looking::{Places, places_looked_through};
-use crate::near::lists_near;
+use crate::postings::{Postings, postings_near};
 use crate::reading::read_text;
 use std::alloc::Global;
 use std::collections::BTreeMap;
 use wu_ask::{Answered, Found};
-use wu_base::{Bytes, Extent, Ino, NoMemory, Sequence, TermList, Trouble};
+use wu_base::{Bytes, Extent, Ino, NoMemory, Sequence, Trouble};
 use wu_frames::Frames;
 use wu_gcl::{Expr, terms_of};
 use wu_image::FileRec;
 use wu_outside::Store;
 use wu_parts::Parts;
 use wu_snip::{Snip, snippets};
-use wu_solve::{count_apart, solve_apart};
 use wu_view::View;
 
 /// Up to so many extents the files that have one are sought by them. More of them are soon met file by file.
@@ -69,15 +68,15 @@ pub fn find<D: Store>(
         files.now.entries (D.holds store.old)) (D.faults store.old) (D.faults store.new) (D.reads store.old) (D.reads store.new)) }
 {
     let terms = terms_of(alloc, expr)?;
-    let lists = lists_near(alloc, store, expr, &terms, frames, parts)?;
-    let counts = count_apart(alloc, expr, frames.ranges.as_slice(), &lists)?;
+    let postings = postings_near(alloc, store, expr, &terms, frames, parts)?;
+    let counts = postings.count(alloc, expr, frames.ranges.as_slice())?;
     let shown = lines_shown(
         alloc,
         store,
         frames,
         files,
         expr,
-        &lists,
+        &postings,
         k as usize,
         counts.hits <= FEW_HITS,
     )?;
@@ -96,32 +95,42 @@ fn lines_shown<D: Store>(
     frames: &Frames,
     files: &BTreeMap<Ino, FileRec>,
     expr: &Expr,
-    lists: &[TermList],
+    postings: &Postings,
     k: usize,
     few: bool,
 ) -> Result<Vec<Found>, Trouble>
     requires fit { CanBeSearched frames.now }
     requires records { AllByRecursion CanBeRead files.now.entries }
-    requires lists { AreLists lists.now }
+    requires solved { CanBeSolved postings.now }
     ensures lines { IfOk result (λ lines. IfSome (D.holds store.old) (λ content. lines.items
-        ≡ take k (flat_map (lines_at content files.now.entries (region_of expr.now) lists.now)
-        (looked_through few (region_of expr.now) lists.now frames.now)))) }
+        ≡ take k (flat_map (lines_at content files.now.entries (region_of expr.now) (lists_found postings.now))
+        (looked_through few (region_of expr.now) (lists_found postings.now) frames.now)))) }
     ensures sound { OnOk result (AllByRecursion (IsTextOf (D.holds store.old) files.now.entries)
-        (texts_shown (hits_at files.now.entries (region_of expr.now) lists.now)
-        (text_at files.now.entries) k (looked_through few (region_of expr.now) lists.now frames.now))) }
+        (texts_shown (hits_at files.now.entries (region_of expr.now) (lists_found postings.now))
+        (text_at files.now.entries) k (looked_through few (region_of expr.now) (lists_found postings.now) frames.now))) }
     ensures store { OnlyReads D.Store store.old store.new result }
     ensures reads { OnOk result (D.reads store.new ≡ option_map (λ ranges. ranges
-        ++ texts_shown (hits_at files.now.entries (region_of expr.now) lists.now)
-        (text_at files.now.entries) k (looked_through few (region_of expr.now) lists.now frames.now)) (D.reads store.old)) }
-    ensures only { ReadsSuch (AreFirstOf (texts_shown (hits_at files.now.entries (region_of expr.now) lists.now)
-        (text_at files.now.entries) k (looked_through few (region_of expr.now) lists.now frames.now)))
+        ++ texts_shown (hits_at files.now.entries (region_of expr.now) (lists_found postings.now))
+        (text_at files.now.entries) k (looked_through few (region_of expr.now) (lists_found postings.now) frames.now))
+        (D.reads store.old)) }
+    ensures only { ReadsSuch (AreFirstOf (texts_shown (hits_at files.now.entries (region_of expr.now) (lists_found postings.now))
+        (text_at files.now.entries) k (looked_through few (region_of expr.now) (lists_found postings.now) frames.now)))
         (D.reads store.old) (D.reads store.new) }
-    ensures cause { IfErr result (IsCause (IsBrokenShown files.now.entries (D.holds store.old) (region_of expr.now) lists.now
-        k (looked_through few (region_of expr.now) lists.now frames.now))
+    ensures cause { IfErr result (IsCause (IsBrokenShown files.now.entries (D.holds store.old) (region_of expr.now)
+        (lists_found postings.now) k (looked_through few (region_of expr.now) (lists_found postings.now) frames.now))
         (D.faults store.old) (D.faults store.new) (D.reads store.old) (D.reads store.new)) }
 {
-    let places = places_looked_through(alloc, frames, expr, lists, few)?;
-    first_lines(alloc, store, &frames.seen, &places, files, expr, lists, k)
+    let places = places_looked_through(alloc, frames, expr, postings, few)?;
+    first_lines(
+        alloc,
+        store,
+        &frames.seen,
+        &places,
+        files,
+        expr,
+        postings,
+        k,
+    )
 }
 
 /// The first `k` extents with their lines, file by file, of the files at these places of the view. Hits beyond
@@ -133,26 +142,27 @@ fn first_lines<D: Store>(
     places: &Places,
     files: &BTreeMap<Ino, FileRec>,
     expr: &Expr,
-    lists: &[TermList],
+    postings: &Postings,
     k: usize,
 ) -> Result<Vec<Found>, Trouble>
     requires records { AllByRecursion CanBeRead files.now.entries }
-    requires lists { AreLists lists.now }
+    requires solved { CanBeSolved postings.now }
     requires within { AreWithin places.now view.now }
     ensures lines { IfOk result (λ lines. IfSome (D.holds store.old) (λ content. lines.items
-        ≡ take k (flat_map (lines_at content files.now.entries (region_of expr.now) lists.now) (files_at places.now view.now)))) }
+        ≡ take k (flat_map (lines_at content files.now.entries (region_of expr.now) (lists_found postings.now))
+        (files_at places.now view.now)))) }
     ensures sound { OnOk result (AllByRecursion (IsTextOf (D.holds store.old) files.now.entries)
-        (texts_shown (hits_at files.now.entries (region_of expr.now) lists.now)
+        (texts_shown (hits_at files.now.entries (region_of expr.now) (lists_found postings.now))
         (text_at files.now.entries) k (files_at places.now view.now))) }
     ensures store { OnlyReads D.Store store.old store.new result }
     ensures reads { OnOk result (D.reads store.new ≡ option_map (λ ranges. ranges
-        ++ texts_shown (hits_at files.now.entries (region_of expr.now) lists.now)
+        ++ texts_shown (hits_at files.now.entries (region_of expr.now) (lists_found postings.now))
         (text_at files.now.entries) k (files_at places.now view.now)) (D.reads store.old)) }
-    ensures only { ReadsSuch (AreFirstOf (texts_shown (hits_at files.now.entries (region_of expr.now) lists.now)
+    ensures only { ReadsSuch (AreFirstOf (texts_shown (hits_at files.now.entries (region_of expr.now) (lists_found postings.now))
         (text_at files.now.entries) k (files_at places.now view.now))) (D.reads store.old) (D.reads store.new) }
     ensures none { k ≡ 0 → store.new ≡ store.old }
-    ensures cause { IfErr result (IsCause (IsBrokenShown files.now.entries (D.holds store.old) (region_of expr.now) lists.now
-        k (files_at places.now view.now))
+    ensures cause { IfErr result (IsCause (IsBrokenShown files.now.entries (D.holds store.old) (region_of expr.now)
+        (lists_found postings.now) k (files_at places.now view.now))
         (D.faults store.old) (D.faults store.new) (D.reads store.old) (D.reads store.new)) }
 {
     let mut shown = Vec::new(alloc);
@@ -163,7 +173,7 @@ fn first_lines<D: Store>(
         let left = k - shown.len();
         let place = places.nth(turn);
         put_file(
-            alloc, store, &mut shown, view, place, files, expr, lists, left,
+            alloc, store, &mut shown, view, place, files, expr, postings, left,
         )?;
     }
     Ok(shown)
@@ -178,38 +188,38 @@ fn put_file<D: Store>(
     place: usize,
     files: &BTreeMap<Ino, FileRec>,
     expr: &Expr,
-    lists: &[TermList],
+    postings: &Postings,
     left: usize,
 ) -> Result<(), Trouble>
     requires records { AllByRecursion CanBeRead files.now.entries }
-    requires lists { AreLists lists.now }
+    requires solved { CanBeSolved postings.now }
     ensures lines { (seen : Seen) → slice_get view.now place ≡ Some seen
         → OnOk result (IfSome (D.holds store.old) (λ content. shown.new.items
-        ≡ shown.old.items ++ take left (lines_at content files.now.entries (region_of expr.now) lists.now seen))) }
+        ≡ shown.old.items ++ take left (lines_at content files.now.entries (region_of expr.now) (lists_found postings.now) seen))) }
     ensures count { (seen : Seen) → slice_get view.now place ≡ Some seen
         → OnOk result (length shown.new.items
-        ≡ length shown.old.items + min left (hits_at files.now.entries (region_of expr.now) lists.now seen)) }
+        ≡ length shown.old.items + min left (hits_at files.now.entries (region_of expr.now) (lists_found postings.now) seen)) }
     ensures sound { (seen : Seen) → slice_get view.now place ≡ Some seen
         → OnOk result (AllByRecursion (IsTextOf (D.holds store.old) files.now.entries)
-        (if nat_lt 0 (min left (hits_at files.now.entries (region_of expr.now) lists.now seen))
+        (if nat_lt 0 (min left (hits_at files.now.entries (region_of expr.now) (lists_found postings.now) seen))
         then text_at files.now.entries seen else [])) }
     ensures store { OnlyReads D.Store store.old store.new result }
     ensures reads { (seen : Seen) → slice_get view.now place ≡ Some seen
         → OnOk result (D.reads store.new ≡ option_map (λ ranges. ranges
-        ++ (if nat_lt 0 (min left (hits_at files.now.entries (region_of expr.now) lists.now seen))
+        ++ (if nat_lt 0 (min left (hits_at files.now.entries (region_of expr.now) (lists_found postings.now) seen))
         then text_at files.now.entries seen else []))
         (D.reads store.old)) }
     ensures only { (seen : Seen) → slice_get view.now place ≡ Some seen
-        → ReadsSuch (AreFirstOf (if nat_lt 0 (min left (hits_at files.now.entries (region_of expr.now) lists.now seen))
+        → ReadsSuch (AreFirstOf (if nat_lt 0 (min left (hits_at files.now.entries (region_of expr.now) (lists_found postings.now) seen))
         then text_at files.now.entries seen else [])) (D.reads store.old) (D.reads store.new) }
     ensures cause { (seen : Seen) → slice_get view.now place ≡ Some seen
-        → IfErr result (IsCause (IsBrokenShown files.now.entries (D.holds store.old) (region_of expr.now) lists.now
+        → IfErr result (IsCause (IsBrokenShown files.now.entries (D.holds store.old) (region_of expr.now) (lists_found postings.now)
         left (seen ∷ []))
         (D.faults store.old) (D.faults store.new) (D.reads store.old) (D.reads store.new)) }
 {
     match recorded_at(view, place, files) {
         Some(file) => {
-            let extents = first_extents(alloc, expr, lists, file, left)?;
+            let extents = first_extents(alloc, expr, postings, file, left)?;
             put_lines(alloc, store, shown, view, place, file, &extents)
         }
         None => Ok(()),
@@ -232,17 +242,17 @@ fn recorded_at<'a>(
 fn first_extents(
     alloc: Global,
     expr: &Expr,
-    lists: &[TermList],
+    postings: &Postings,
     file: &FileRec,
     left: usize,
 ) -> Result<Vec<Extent>, NoMemory>
-    requires lists { AreLists lists.now }
+    requires solved { CanBeSolved postings.now }
     requires record { CanBeRead (file.now.ino, file.now) }
-    ensures extents { IfOk result (λ v. v.items ≡ take left (extents_of (region_of expr.now) lists.now file.now)) }
+    ensures extents { IfOk result (λ v. v.items ≡ take left (extents_of (region_of expr.now) (lists_found postings.now) file.now)) }
     ensures within { IfOk result (λ v. All (IsBelow file.now.range.len) v.items) }
     ensures ascending { IfOk result (λ v. IsAscending v.items) }
 {
-    let extents = solve_apart(alloc, expr, &[file.range], lists)?;
+    let extents = postings.solve(alloc, expr, &[file.range])?;
     let count = extents.len().min(left);
     counted_from(alloc, file.range.start, &extents[..count])
 }

@@ -1,14 +1,15 @@
 //! The files of a view that are looked through for lines.
 ghost use Rattle.std.specs.Prelude.{◌≡◌, ◌<◌, ℕ, List, length, slice_get, IfOk};
 ghost use Rattle.wu_gcl.specs.Regions.{region_of};
-ghost use Rattle.wu_solve.specs.Addresses.{AreLists};
 ghost use Rattle.wu_view.specs.declared.Seen.{Seen};
 ghost use Rattle.wu_query.specs.Finding.{AreWithin, IsTurn, files_at, looked_through};
+ghost use Rattle.wu_query.specs.Near.{CanBeSolved, lists_found};
 ghost use Rattle.wu_query.specs.Units.{CanBeSearched};
 
+use crate::postings::Postings;
 use crate::units::{places_with, units_of};
 use std::alloc::Global;
-use wu_base::{NoMemory, Sequence, TermList};
+use wu_base::{NoMemory, Sequence};
 use wu_frames::Frames;
 use wu_gcl::Expr;
 use wu_view::View;
@@ -53,18 +54,20 @@ pub(crate) fn places_looked_through(
     alloc: Global,
     frames: &Frames,
     expr: &Expr,
-    lists: &[TermList],
+    postings: &Postings,
     few: bool,
 ) -> Result<Places, NoMemory>
     requires fit { CanBeSearched frames.now }
-    requires lists { AreLists lists.now }
-    ensures files { IfOk result (λ places. files_at places frames.now.seen ≡ looked_through few (region_of expr.now) lists.now frames.now) }
+    requires solved { CanBeSolved postings.now }
+    ensures files { IfOk result (λ places. files_at places frames.now.seen
+        ≡ looked_through few (region_of expr.now) (lists_found postings.now) frames.now) }
     ensures within { IfOk result (λ places. AreWithin places frames.now.seen) }
 {
     if !few {
         return Ok(Places::All);
     }
-    let units = units_of(alloc, frames, expr, lists)?;
+    let extents = postings.solve(alloc, expr, frames.ranges.as_slice())?;
+    let units = units_of(alloc, frames, &extents)?;
     let places = places_with(alloc, &frames.seen, &units)?;
     Ok(Places::Listed {
         places: Sequence::from(places),

@@ -97,7 +97,7 @@ fn is_needed(needed: &[Bytes], term: &Bytes) -> bool
 }
 
 /// Each of the terms, with its addresses. The terms are asked for in turn.
-fn gathered_of<D: Store>(
+pub fn gathered_of<D: Store>(
     alloc: Global,
     store: &mut D,
     terms: &[Bytes],
@@ -176,7 +176,7 @@ fn lists_for(
 
 /// The place of a needed term with the fewest addresses, if they are few beside those of all terms. The clause says no
 /// more than that the term is needed, since only time depends on which one it is, and on whether there is one.
-fn rare_place(needed: &[Bytes], gathered: &[GatheredTerm]) -> Option<usize>
+pub fn rare_place(needed: &[Bytes], gathered: &[GatheredTerm]) -> Option<usize>
     requires { IsStrictlySortedBy (slice_cmp nat_cmp) needed.now }
     ensures { IfSome result (IsNeededAt needed.now gathered.now) }
 {
@@ -198,7 +198,7 @@ fn rare_place(needed: &[Bytes], gathered: &[GatheredTerm]) -> Option<usize>
 }
 
 /// The lists of the terms with their addresses in the frames.
-fn lists_within(
+pub fn lists_within(
     alloc: Global,
     gathered: &[GatheredTerm],
     frames: &[Range],

@@ -33,6 +33,7 @@ use wu_gcl::{Expr, terms_of};
 use wu_outside::Store;
 use wu_parts::Parts;
 use wu_rank::{Pruned, Ranker, Ranking, Unit, bm25_weigh, rank, rank_pruned, summed_length};
+use wu_solve::solve_apart;
 use wu_space::Space;
 
 /// What is asked of a ranking.
@@ -130,7 +131,8 @@ fn rank_lists(
         → answered ≡ answer (view_of s uid) (ranking_question wanted (region_of unit.now) words.now)) }
 {
     let (of_unit, own) = lists.split_at(count);
-    let units = units_of(alloc, frames, unit, of_unit)?;
+    let extents = solve_apart(alloc, unit, frames.ranges.as_slice(), of_unit)?;
+    let units = units_of(alloc, frames, &extents)?;
     rank_units(alloc, frames, space, wanted, &units, words, lists, own)
 }
 

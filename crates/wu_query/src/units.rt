@@ -2,35 +2,32 @@
 ghost use Rattle.std.specs.Prelude.{◌≡◌, ◌≤◌, ◌<◌, ◌+◌, ◌^◌, ◌||◌, ◌==◌, ◌++◌, ◌∷◌, [], All, List, ℕ, false, if◌then◌else◌, drop, length};
 ghost use Rattle.std.specs.Prelude.{map, take, slice_index_or, vec_len, IfOk, OnOk};
 ghost use Rattle.std.specs.List.{AllByRecursion, list_any};
-ghost use Rattle.wu_gcl.specs.Regions.{region_of};
+ghost use Rattle.wu_gcl.specs.Regions.{Region};
 ghost use Rattle.wu_base.specs.declared.addresses.Extent.{Extent as AnExtent};
-ghost use Rattle.wu_solve.specs.Addresses.{AreLists};
+ghost use Rattle.wu_base.specs.declared.addresses.TermList.{TermList};
+ghost use Rattle.wu_solve.specs.Solving.{frames_hits};
 ghost use Rattle.wu_base.specs.Ranges.{AreApart};
 ghost use Rattle.wu_query.specs.Finding.{files_listed, is_at_place, with_units};
 ghost use Rattle.wu_query.specs.Rankings.{unit_at};
 ghost use Rattle.wu_query.specs.Units.{AreUnits, CanBeSearched, count_before, end_of, file_unit, file_units, placed};
 
 use std::alloc::Global;
-use wu_base::{Extent, NoMemory, TermList};
+use wu_base::{Extent, NoMemory};
 use wu_frames::{Frame, Frames};
-use wu_gcl::Expr;
 use wu_rank::Unit;
-use wu_solve::solve_apart;
 use wu_view::View;
 
-/// The extents of the expression, by address, each with the place of its file in the view.
+/// The extents of an expression, by address, each with the place of its file in the view.
 pub(crate) fn units_of(
     alloc: Global,
     frames: &Frames,
-    unit: &Expr,
-    lists: &[TermList],
+    extents: &[Extent],
 ) -> Result<Vec<Unit>, NoMemory>
-    requires fit { CanBeSearched frames.now }
-    requires lists { AreLists lists.now }
-    ensures { IfOk result (λ units. AreUnits (region_of unit.now) frames.now lists.now units.items) }
+    requires { CanBeSearched frames.now }
+    ensures { IfOk result (λ units. (region : Region) (lists : List TermList)
+        → extents.now ≡ frames_hits region lists frames.now.ranges → AreUnits region frames.now lists units.items) }
 {
-    let extents = solve_apart(alloc, unit, frames.ranges.as_slice(), lists)?;
-    placed(alloc, frames.by_address.as_slice(), &extents)
+    placed(alloc, frames.by_address.as_slice(), extents)
 }
 
 /// The extents, each with the place of the frame that it starts in, where frames and extents ascend. Frames in

@@ -6,6 +6,7 @@ use Rattle.wu_gcl.specs.Regions.{region_of}
 use Rattle.wu_query.specs.Causes.{IsBrokenIn, IsDamagedOf}
 use Rattle.wu_view.specs.declared.Seen.{Seen}
 use Rattle.wu_query.specs.Finding.{files_at, hits_at, lines_at, text_at}
+use Rattle.wu_query.specs.Near.{lists_found}
 use Rattle.wu_query.proofs.FilesAtPlaces.{file_is, file_there}
 use Rattle.wu_query.proofs.FirstLines.{at_place, lines_kept, texts_done, texts_kept}
 use Rattle.wu_query.specs.Records.{record_at}
@@ -25,14 +26,15 @@ returns-then-len-k-clause-reads g c =
     let files = c.args.files.now.entries in
     let long : c.len.result ≡ length c.loop-turn.shown.items = search rules in
     let full : c.args.k - length c.loop-turn.shown.items ≡ 0 = omega (arith, c.if-len-k.true) in
-    texts_done c.args.k c.loop-turn.shown.items _ (hits_at files (region_of c.args.expr.now) c.args.lists.now) (text_at files)
+    texts_done c.args.k c.loop-turn.shown.items _ (hits_at files (region_of c.args.expr.now) (lists_found c.args.postings.now))
+    (text_at files)
     (g.D.Store.reads c.loop-turn.store) _ (inl full) c.loop-turn.invariant.reads
 
 pub loop-turn-preserved : goal.loop-turn-preserved
 loop-turn-preserved g c =
     let files = c.args.files.now.entries in
     let region = region_of c.args.expr.now in
-    let lists = c.args.lists.now in
+    let lists = lists_found c.args.postings.now in
     let hits = hits_at files region lists in
     let k = c.args.k in
     let i = c.loop-turn.turn in
@@ -75,7 +77,7 @@ returns-in_err-put_file-clause-only g c =
     let there : slice_get c.args.view.now c.nth-place.result ≡ Some found.0 =
     c.nth-place.ensures c.args.view.now c.requires.within ∙ found.1 in
     let long : c.len-in-loop-turn.result ≡ length c.loop-turn.shown.items = search rules in
-    file_only (hits_at files (region_of c.args.expr.now) c.args.lists.now) (text_at files) c.args.k i looked found.0 within
+    file_only (hits_at files (region_of c.args.expr.now) (lists_found c.args.postings.now)) (text_at files) c.args.k i looked found.0 within
     (file_is looked i found.0 found.1) long (g.D.Store.reads c.args.store.now) c.loop-turn.invariant.only
     (c.in_err-put_file.ensures.only found.0 there)
 
@@ -84,7 +86,8 @@ returns-then-len-k-clause-sound g c =
     let files = c.args.files.now.entries in
     let long : c.len.result ≡ length c.loop-turn.shown.items = search rules in
     let full : c.args.k - length c.loop-turn.shown.items ≡ 0 = omega (arith, c.if-len-k.true) in
-    whole_done (IsTextOf (g.D.Store.holds c.args.store.now) files) (hits_at files (region_of c.args.expr.now) c.args.lists.now)
+    whole_done (IsTextOf (g.D.Store.holds c.args.store.now) files)
+    (hits_at files (region_of c.args.expr.now) (lists_found c.args.postings.now))
     (text_at files) c.args.k c.loop-turn.shown.items _ (inl full) c.loop-turn.invariant.sound
 
 pub returns-in_err-put_file-clause-cause : goal.returns-in_err-put_file-clause-cause
@@ -105,7 +108,8 @@ returns-in_err-put_file-clause-cause g c =
     (cause_behind told.only.0 told.only.2
     (cause_after told.calm (c.in_err-put_file.ensures.cause seen there)
     (λ blob broken. (
-      file_blob (hits_at files (region_of c.args.expr.now) c.args.lists.now) (text_at files) c.args.k i looked seen within is long
+      file_blob (hits_at files (region_of c.args.expr.now) (lists_found c.args.postings.now))
+          (text_at files) c.args.k i looked seen within is long
           (g.D.Store.reads c.args.store.now) told.only blob broken.0,
       some_behind (λ file. IsSomeAnd (record_at files file.ino) (λ recorded. IsBrokenIn holds recorded blob)) i looked
           (subst (λ (some : List Seen). IsDamagedOf some files holds blob) (sym (at_place looked i seen within is))

@@ -10,6 +10,7 @@ use Rattle.wu_query.specs.Finding.{extents_of}
 use Rattle.wu_lists.proofs.Asking.{ranges-none}
 use Rattle.wu_outside.specs.declared.ranges.ReadRange.{ReadRange}
 use Rattle.wu_query.specs.Reads.{IsTextOf}
+use Rattle.wu_query.specs.Near.{lists_found}
 use Rattle.wu_query.proofs.ExportedFiles.{none_read}
 use Rattle.wu_query.proofs.FilesAtPlaces.{found_readable, no_hits, no_line, no_text, record_is}
 use Rattle.wu_query.proofs.FirstLines.{lines_of_file}
@@ -33,7 +34,7 @@ returns-in_ok-extents-in-Some-clause-lines g c = λ seen there.
     (λ content put.
     put
     ∙ ap (λ (lines : List Found). c.args.shown.now.items ++ lines)
-    (lines_of_file content c.args.files.now.entries (region_of c.args.expr.now) c.args.lists.now seen c.in-Some.file.now
+    (lines_of_file content c.args.files.now.entries (region_of c.args.expr.now) (lists_found c.args.postings.now) seen c.in-Some.file.now
     c.args.left seen.paths c.deref.result.now (record_is c.args.files.now.entries _ seen _ there c.in-Some.ensures) refl
     (c.deref.ensures.value ∙ c.in_ok-extents-in-Some.ensures.extents))))
     (c.put_lines.ensures.lines seen there)
@@ -42,60 +43,65 @@ pub returns-in_ok-extents-in-Some-clause-cause : goal.returns-in_ok-extents-in-S
 returns-in_ok-extents-in-Some-clause-cause g c = λ seen there.
     if_err c.put_lines.result c.put_lines.ensures.cause
     (λ trouble cause. cause_after refl cause
-    (file_shown c.args.files.now.entries (g.D.Store.holds c.args.store.now) (region_of c.args.expr.now) c.args.lists.now seen
+    (file_shown c.args.files.now.entries (g.D.Store.holds c.args.store.now) (region_of c.args.expr.now) (lists_found c.args.postings.now)
+    seen
     c.in-Some.file.now c.args.left c.deref.result.now (record_is c.args.files.now.entries _ seen _ there c.in-Some.ensures)
     (c.deref.ensures.value ∙ c.in_ok-extents-in-Some.ensures.extents)))
 
 pub returns-in_ok-extents-in-Some-clause-sound : goal.returns-in_ok-extents-in-Some-clause-sound
 returns-in_ok-extents-in-Some-clause-sound g c = λ seen there.
     on_ok_weaker c.put_lines.result
-    (whole_shown (g.D.Store.holds c.args.store.now) c.args.files.now.entries (region_of c.args.expr.now) c.args.lists.now seen
+    (whole_shown (g.D.Store.holds c.args.store.now) c.args.files.now.entries (region_of c.args.expr.now) (lists_found c.args.postings.now)
+    seen
     c.in-Some.file.now c.args.left c.deref.result.now (record_is c.args.files.now.entries _ seen _ there c.in-Some.ensures)
     (c.deref.ensures.value ∙ c.in_ok-extents-in-Some.ensures.extents))
     c.put_lines.ensures.sound
 
 pub returns-in_ok-extents-in-Some-clause-count : goal.returns-in_ok-extents-in-Some-clause-count
 returns-in_ok-extents-in-Some-clause-count g c = λ seen there.
-    let first = extents_of (region_of c.args.expr.now) c.args.lists.now c.in-Some.file.now in
+    let first = extents_of (region_of c.args.expr.now) (lists_found c.args.postings.now) c.in-Some.file.now in
     let many : length c.deref.result.now ≡ min c.args.left (length first) =
     ap length (c.deref.ensures.value ∙ c.in_ok-extents-in-Some.ensures.extents) ∙ length-take c.args.left first in
     rw (record_is c.args.files.now.entries _ seen _ there c.in-Some.ensures) (rw many at c.put_lines.ensures.count)
 
 pub returns-in_ok-extents-in-Some-clause-reads : goal.returns-in_ok-extents-in-Some-clause-reads
 returns-in_ok-extents-in-Some-clause-reads g c = λ seen there.
-    let first = extents_of (region_of c.args.expr.now) c.args.lists.now c.in-Some.file.now in
+    let first = extents_of (region_of c.args.expr.now) (lists_found c.args.postings.now) c.in-Some.file.now in
     let many : length c.deref.result.now ≡ min c.args.left (length first) =
     ap length (c.deref.ensures.value ∙ c.in_ok-extents-in-Some.ensures.extents) ∙ length-take c.args.left first in
     rw (record_is c.args.files.now.entries _ seen _ there c.in-Some.ensures) (rw many at c.put_lines.ensures.reads)
 
 pub returns-in_ok-extents-in-Some-clause-only : goal.returns-in_ok-extents-in-Some-clause-only
 returns-in_ok-extents-in-Some-clause-only g c = λ seen there.
-    let first = extents_of (region_of c.args.expr.now) c.args.lists.now c.in-Some.file.now in
+    let first = extents_of (region_of c.args.expr.now) (lists_found c.args.postings.now) c.in-Some.file.now in
     let many : length c.deref.result.now ≡ min c.args.left (length first) =
     ap length (c.deref.ensures.value ∙ c.in_ok-extents-in-Some.ensures.extents) ∙ length-take c.args.left first in
     rw (record_is c.args.files.now.entries _ seen _ there c.in-Some.ensures) (rw many at c.put_lines.ensures.only)
 
 pub returns-in-None-clause-lines : goal.returns-in-None-clause-lines
 returns-in-None-clause-lines g c = λ seen there.
-    no_line c.args.files.now.entries (region_of c.args.expr.now) c.args.lists.now seen c.args.left (record_is c.args.files.now.entries _ seen _ there c.in-None.ensures)
+    no_line c.args.files.now.entries (region_of c.args.expr.now) (lists_found c.args.postings.now)
+    seen c.args.left (record_is c.args.files.now.entries _ seen _ there c.in-None.ensures)
     (g.D.Store.holds c.args.store.now) c.args.shown.now.items
 
 pub returns-in-None-clause-count : goal.returns-in-None-clause-count
 returns-in-None-clause-count g c = λ seen there.
-    let none = no_hits c.args.files.now.entries (region_of c.args.expr.now) c.args.lists.now seen c.args.left
+    let none = no_hits c.args.files.now.entries (region_of c.args.expr.now) (lists_found c.args.postings.now) seen c.args.left
     (record_is c.args.files.now.entries _ seen _ there c.in-None.ensures) in
     omega (arith, none)
 
 pub returns-in-None-clause-sound : goal.returns-in-None-clause-sound
 returns-in-None-clause-sound g c = λ seen there.
     subst (AllByRecursion (IsTextOf (g.D.Store.holds c.args.store.now) c.args.files.now.entries))
-    (sym (no_text c.args.files.now.entries (region_of c.args.expr.now) c.args.lists.now seen c.args.left (record_is c.args.files.now.entries _ seen _ there c.in-None.ensures))) tt
+    (sym (no_text c.args.files.now.entries (region_of c.args.expr.now) (lists_found c.args.postings.now)
+    seen c.args.left (record_is c.args.files.now.entries _ seen _ there c.in-None.ensures))) tt
 
 pub returns-in-None-clause-reads : goal.returns-in-None-clause-reads
 returns-in-None-clause-reads g c = λ seen there.
     ranges-none (g.D.Store.reads c.args.store.now)
     ∙ ap (λ (texts : List ReadRange). option_map (λ (ranges : List ReadRange). ranges ++ texts) (g.D.Store.reads c.args.store.now))
-    (sym (no_text c.args.files.now.entries (region_of c.args.expr.now) c.args.lists.now seen c.args.left (record_is c.args.files.now.entries _ seen _ there c.in-None.ensures)))
+    (sym (no_text c.args.files.now.entries (region_of c.args.expr.now) (lists_found c.args.postings.now)
+    seen c.args.left (record_is c.args.files.now.entries _ seen _ there c.in-None.ensures)))
 
 pub returns-in-None-clause-only : goal.returns-in-None-clause-only
 returns-in-None-clause-only g c = λ seen there. none_read _ (g.D.Store.reads c.args.store.now)
