@@ -19,6 +19,7 @@ SERVICE_TESTS := \
 	server \
 	at_once \
 	kills \
+	silent \
 	judged \
 	client \
 	web \

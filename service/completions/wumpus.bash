@@ -54,7 +54,7 @@ _wumpus_watch() {
 
 _wumpusd() {
     _wumpus_options "--folder --program --sockets --mirror --mirror-user --group --mode --allow
-        --refuse-root --subuid --stale --query-seconds --idle-seconds --age-seconds --connections
+        --refuse-root --subuid --stale --stale-live --query-seconds --idle-seconds --age-seconds --connections
         --connections-of-user --reply-bytes --version --help" f
 }
 

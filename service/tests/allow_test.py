@@ -176,8 +176,8 @@ def of_reports(served: Served, score: Score) -> None:
         hand.feed(b"nothing")
         hand.told(b"ask\tstat")  # the program began again
         status = status_of(served)
-        due_keys = {"format", "written", "started", "fed_age", "stale", "ready", "program",
-                    "queries", "connections", "waiting", "slow", "batches"}  # fmt: skip
+        due_keys = {"format", "written", "started", "fed_age", "heard_age", "stale", "ready",
+                    "program", "queries", "connections", "waiting", "slow", "batches"}  # fmt: skip
         score.check(set(status) == due_keys, f"the file has {sorted(status)}")
         score.check(status["batches"] == {"fed": 1, "failed": 1}, f"{status['batches']}")
         score.check(status["queries"]["answered"] == 1, f"{status['queries']}")

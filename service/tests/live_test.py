@@ -1,7 +1,9 @@
 """What is taken away at once: events as bytes, who is next, and the meet of rights."""
 
+import os
 import struct
 import sys
+import tempfile
 from collections.abc import Callable
 from pathlib import Path
 from unittest import mock
@@ -19,6 +21,7 @@ from wumpus.live.waiting import Item, Waiting  # isort: skip
 from wumpus.mirror.ledger import less, narrowed  # isort: skip
 from wumpus.mirror.nodes import ROOT, Node, Rights, Tree  # isort: skip
 from wumpus.service.merging import Merging  # isort: skip
+from wumpus.shared.clock import moment  # isort: skip
 
 PLAIN = Rights(0o644, 5, 20)
 
@@ -74,18 +77,57 @@ def kept(score: Score) -> None:
         for number in range(5):
             wait.add(event(calls.FAN_ATTRIB, piece(1, places[0] + b"%d" % number)))
         score.check(wait.flags == emptier.LOST_OF_ONE, "files alone are no reason for a walk")
-        wait.add(event(calls.FAN_Q_OVERFLOW))
+        score.check(wait.add(event(calls.FAN_Q_OVERFLOW)) == 1, "how many came")
+        wait.until = 7
         first = wait.give()
-        size, flags = emptier.HEAD.unpack_from(first)
+        size, flags, until = emptier.HEAD.unpack_from(first)
         score.check(flags == emptier.LOST_OF_ONE | emptier.LOST, f"what was lost: {flags}")
+        score.check(until == 7, f"up to when: {until}")
         score.check(len(first) == emptier.HEAD.size + size, "how long it is")
-        told = [(what, told_in(names).name) for what, names in events_in(first[8:])]
+        told = [(what, told_in(names).name) for what, names in events_in(first[emptier.HEAD.size :])]
         due = [(calls.FAN_DELETE | calls.FAN_ATTRIB, b"a"), (calls.FAN_ATTRIB, b"x")]
         score.check(told[:2] == due, f"of each directory one: {told}")
         more = 0
         while not wait.is_empty():
-            more += len(events_in(wait.give()[8:]))
+            more += len(events_in(wait.give()[emptier.HEAD.size :]))
         score.check((len(told), more, wait.size) == (3, 4, 0), f"then the rest: {told} {more}")
+
+
+def emptied(score: Score) -> None:
+    """What waits at a moment is read, and not on and on what comes meanwhile."""
+    with tempfile.TemporaryDirectory() as name:
+        group, place = calls.new_group(), os.open(name, os.O_RDONLY)
+        calls.mark_directory(group, place)
+        wait, reads, count = Kept(), os.read, [0]
+
+        def make() -> None:
+            count[0] += 1
+            os.chmod(name, 0o700 + count[0] % 8)
+            path = Path(name) / f"{count[0]}"
+            path.touch()
+            path.unlink()
+
+        def read(descriptor: int, size: int) -> bytes:
+            told = reads(descriptor, 200)
+            for _ in range(20 if count[0] < 2000 else 0):
+                make()
+            return told
+
+        for _ in range(20):
+            make()
+        before = moment()
+        with mock.patch("os.read", read):
+            emptier._read(group, wait)
+        score.check(before <= wait.until <= moment(), f"up to when: {wait.until}")
+        score.check(b"20" in names_in(wait), "what was there is read")
+        score.check(count[0] < 1000 and b"%d" % count[0] not in names_in(wait), "and no more")
+        for one in (group, place):
+            os.close(one)
+
+
+def names_in(wait: Kept) -> set[bytes]:
+    """The names of which events wait."""
+    return {told_in(names).name for of in wait.events.values() for names in of}
 
 
 def persons(score: Score) -> None:
@@ -234,7 +276,7 @@ def main() -> int:
     options(__doc__ or "").parse_args()
     score = Score("live")
     parts: tuple[Callable[[Score], None], ...] = (
-        events, kept, persons, moved, replaced, lines, merged, rights
+        events, kept, emptied, persons, moved, replaced, lines, merged, rights
     )  # fmt: skip
     for part in parts:
         part(score)

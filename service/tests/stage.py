@@ -37,6 +37,7 @@ class Stage(Served):
     def __init__(self, folder: Path, program: str) -> None:
         super().__init__(folder, program)
         self.watch = folder / "watch"
+        self.bounds: tuple[str, ...] = ()  # options of the service
         self.helper: subprocess.Popen[bytes] | None = None
         self.turning: subprocess.Popen[bytes] | None = None
         self.log = open(folder / "log", "wb")
@@ -60,16 +61,20 @@ class Stage(Served):
     def begin(self, *words: str, every: str = SELDOM) -> None:
         """Starts all three."""
         self.help()
-        self.start()
+        self.start(*self.bounds)
         self.turn(*words, every=every)
 
-    def told(self) -> dict[str, Any]:
+    def told(self, name: str = "mirror.status") -> dict[str, Any]:
         """The mirror's status."""
         try:
-            found: dict[str, Any] = json.loads((self.store / "mirror.status").read_text())
+            found: dict[str, Any] = json.loads((self.store / name).read_text())
         except FileNotFoundError:
             return {}
         return found
+
+    def of_service(self) -> dict[str, Any]:
+        """The service's status."""
+        return self.told("service.status")
 
     def rests(self) -> bool:
         """Waits until a turn is over."""
@@ -190,11 +195,16 @@ def make_home(tree: Path) -> Path:
 
 
 def on_stage(
-    program: str, score: Score, what: Callable[[Stage, Score], None], every: str = SELDOM
+    program: str,
+    score: Score,
+    what: Callable[[Stage, Score], None],
+    every: str = SELDOM,
+    bounds: tuple[str, ...] = (),
 ) -> None:
     """Does something with all three, after a first turn."""
     with folder_of_own() as name:
         stage = Stage(Path(name), program)
+        stage.bounds = bounds
         make_home(stage.tree)
         (stage.tree / "eve").mkdir()
         os.chown(stage.tree / "eve", EVE.number, EVE.number)

@@ -56,6 +56,7 @@ class Directories:
     replaced: Replaced = field(default_factory=Replaced)  # is used by who has the batches' lock
     systems: dict[int, System] = field(default_factory=dict)  # by device
     whole: set[int] = field(default_factory=set)  # devices of which not only ways are wanted
+    marks_made: int = 0  # of file systems that weren't marked before
     mounts: Mounts = field(default_factory=Mounts)
     lock: threading.Lock = field(default_factory=threading.Lock)  # for the list of mounts
     bad: dict[int, tuple[bytes, str]] = field(default_factory=dict)
@@ -213,7 +214,9 @@ class Directories:
         else:
             self.marks.one(descriptor)
         os.close(open_handle(descriptor, handle_of(descriptor)))
-        self.systems.setdefault(device, System(device, number, path))
+        if device not in self.systems:
+            self.systems[device] = System(device, number, path)
+            self.marks_made += 1
 
 
 def _system_at(descriptor: int) -> tuple[int, bytes]:

@@ -2,48 +2,57 @@
 
 It has a process of its own, as a walk leaves a thread too little of the processor. It joins equal
 events and keeps the others, by the directory that each names, until the mirror asks for them. Where
-one directory has too many, or the kernel had no room, some are lost, and the mirror is told.
+one directory has too many, or the kernel had no room, some are lost, and the mirror is told. It is
+told too up to which moment all that the kernel told was given, also where that is nothing.
 """
 
+import array
+import fcntl
 import os
 import select
 import socket
 import struct
 import sys
+import termios
 
+from ..shared.clock import moment
 from ..shared.program import die_with_parent
 from .calls import FAN_Q_OVERFLOW
 from .events import Unreadable, is_of_directory, split
 
 READ = 1 << 18  # bytes at once
-READS = 8  # between two looks at the mirror
+OF_HEAD = 24  # bytes of an event that the kernel counts
+REST = 1000  # milliseconds after which the mirror is told that there is nothing
 PAUSE = 5  # milliseconds between two readings, in which the kernel joins equal events
 OF_ONE = 20_000  # events that wait, of one directory, and of files without one
 BYTES_MAX = 64 << 20
 OF_EVENT = 400  # bytes beside its own that an event takes
 AT_ONCE = 20_000  # events that the mirror is given at once
 ASKS = b"?"
-HEAD = struct.Struct("=II")  # of what is given: its bytes, and flags
+HEAD = struct.Struct("=IIQ")  # of what is given: its bytes, flags, and up to which moment
 LOST, LOST_OF_ONE = 1, 2  # by the kernel, or for want of memory; and of one directory
 EVENT = struct.Struct("=QI")  # what happened, and how many bytes tell where
 FILES = b""  # in the place of the directory, of events that name none
 
 
 class Kept:
-    """The events that wait."""
+    """The events that wait. All that the kernel told before the moment `until` came, or is lost."""
 
     def __init__(self) -> None:
         self.events: dict[bytes, dict[bytes, int]] = {}
         self.size = 0
         self.flags = 0
+        self.until = 0
 
     def is_empty(self) -> bool:
         """Whether there is nothing to be given."""
         return not self.events and not self.flags
 
-    def add(self, data: bytes) -> None:
-        """Takes what the kernel told. Raises `Unreadable`."""
+    def add(self, data: bytes) -> int:
+        """Takes what the kernel told: how many events. Raises `Unreadable`."""
+        count = 0
         for what, first, names in split(data):
+            count += 1
             if what & FAN_Q_OVERFLOW:
                 self.flags |= LOST
                 continue
@@ -61,9 +70,10 @@ class Kept:
             else:
                 events[names] = what
                 self.size += len(names) + OF_EVENT
+        return count
 
     def give(self) -> bytes:
-        """Some of them, of each directory as many, as bytes."""
+        """Some of them, of each directory as many, as bytes: what is left waits behind these."""
         pieces = []
         each = max(1, AT_ONCE // max(1, len(self.events)))
         for directory in list(self.events):
@@ -75,7 +85,7 @@ class Kept:
                 del self.events[directory]
         told = b"".join(pieces)
         flags, self.flags = self.flags, 0
-        return HEAD.pack(len(told), flags) + told
+        return HEAD.pack(len(told), flags, self.until) + told
 
 
 def empty(group: int, mirror: socket.socket) -> None:
@@ -88,14 +98,17 @@ def empty(group: int, mirror: socket.socket) -> None:
     pause = select.poll()
     pause.register(mirror, select.POLLIN)
     while True:
-        ready = [number for number, _ in poll.poll()]
+        began = moment()
+        ready = [number for number, _ in poll.poll(REST if is_asked else None)]
         if mirror.fileno() in ready:
             if not mirror.recv(1):
                 return
             is_asked = True
         if group in ready:
             _read(group, kept)
-        if is_asked and not kept.is_empty():
+        else:
+            kept.until = began
+        if is_asked and (not kept.is_empty() or not ready):
             mirror.sendall(kept.give())
             is_asked = False
         if not is_asked:
@@ -105,12 +118,21 @@ def empty(group: int, mirror: socket.socket) -> None:
 
 
 def _read(group: int, kept: Kept) -> None:
-    """Reads what is there, but not on and on."""
-    for _ in range(READS):
+    """Reads what is there at this moment, and nothing that comes meanwhile, on and on."""
+    kept.until = moment()
+    left = _waiting_in(group)
+    while left > 0:
         try:
-            kept.add(os.read(group, READ))
+            left -= kept.add(os.read(group, READ))
         except BlockingIOError:
             return
+
+
+def _waiting_in(group: int) -> int:
+    """How many events wait in a group. Raises `OSError`."""
+    count = array.array("i", [0])
+    fcntl.ioctl(group, termios.FIONREAD, count)
+    return count[0] // OF_HEAD
 
 
 def main() -> None:

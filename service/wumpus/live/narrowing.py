@@ -15,7 +15,7 @@ from pathlib import Path
 
 from ..mirror.access import Access
 from ..mirror.ledger import narrowed
-from ..mirror.nodes import Node, Rights
+from ..mirror.nodes import Node, Rights, Tree
 from ..mirror.planner import Planner
 from ..mirror.reach import Served
 from ..mirror.turn import Mirror
@@ -23,6 +23,7 @@ from ..shared.store import Failed
 from . import calls
 from .directories import Beside, Directories
 from .events import Unreadable, told_in
+from .hearing import Hearing
 from .reader import Event, Gone, Reader
 from .seeing import Seeing
 from .waiting import Item, Waiting
@@ -104,6 +105,8 @@ class Narrowing:
         self.reader: Reader | None = None
         self.directories: Directories | None = None
         self.waiting = Waiting()
+        self.hearing = Hearing(reach)
+        self.compared: Tree | None = None  # the tree whose directories are known
         self.unsaved = 0
         self.unsaved_since = 0.0
         self.thread = threading.Thread(target=self._run, name="narrowing", daemon=True)
@@ -115,6 +118,8 @@ class Narrowing:
         sys.setswitchinterval(SWITCH_SECONDS)
         self._begin_reader()
         self.walk_is_fed()
+        if self.reader is None:
+            self.hearing.end()
         self.thread.start()
 
     def walk_is_fed(self) -> None:
@@ -126,11 +131,15 @@ class Narrowing:
             self._begin_reader()
         if self.directories is None:
             return
-        differing = self.directories.renew(self.mirror.state.tree)
+        tree, marks = self.mirror.state.tree, self.directories.marks_made
+        differing = self.directories.renew(tree)
         with self.ledger:
-            self.directories.replaced.renew(self.mirror.state.tree)
+            self.directories.replaced.renew(tree)
             for number in differing:
                 self._put(self._person_of(number), Item(number))
+            if self.directories.marks_made != marks:
+                self.hearing.miss()  # of what is there nothing was told until now
+            self.compared = tree
         self._wake()
 
     def check(self) -> None:
@@ -190,6 +199,7 @@ class Narrowing:
             self.why = f"the kernel doesn't tell of changes: {error}"
             return
         self.directories = Directories(_GroupMarks(watcher, group), self.settings.roots)
+        self.compared = None
         self.reader = Reader(group)
         self.why, self.is_gone = None, False
         self.begun.set()
@@ -220,13 +230,16 @@ class Narrowing:
                 traceback.print_exc()
             self.failure = error
 
-    def _wait(self) -> tuple[list[Event], int]:
-        """Waits for events, or until something is due: what came, and what was lost."""
+    def _wait(self) -> tuple[list[Event], int, int]:
+        """Waits for events, or until something is due: what came, what was lost, until when.
+
+        Raises `Failed`.
+        """
         self.begun.clear()
         reader = self.reader
         if reader is None or self.is_gone:
             self.begun.wait(SAVED_AFTER)
-            return [], 0
+            return [], 0, 0
         due = self.waiting.seconds()
         if self.unsaved:
             save = max(0.0, self.unsaved_since + SAVED_AFTER - time.monotonic())
@@ -235,9 +248,10 @@ class Narrowing:
             return reader.take(due)
         except Gone as error:
             self.is_gone, self.is_lost, self.why = True, True, str(error)
-            return [], 0
+            self.hearing.end()
+            return [], 0, 0
 
-    def _step(self, events: list[Event], flags: int) -> None:
+    def _step(self, events: list[Event], flags: int, until: int) -> None:
         """Sorts what came, and looks at some of it. Raises `Failed`."""
         fed = False
         with self.ledger:
@@ -247,7 +261,10 @@ class Narrowing:
             else:
                 self._count_lost(flags)
                 self._sort(events, directories)
+                self.hearing.until = until or self.hearing.until
                 fed = self._round(directories)
+                if self.compared is self.mirror.state.tree:
+                    self.hearing.tell(self.waiting.since())
             late = time.monotonic() - self.unsaved_since >= SAVED_AFTER
             if self.unsaved and (late or self.unsaved >= UNSAVED_MOST) and not self.ending:
                 self.feeder.save_taken(self.reach)
@@ -258,8 +275,13 @@ class Narrowing:
 
     def _count_lost(self, flags: int) -> None:
         if flags:
-            self.is_lost = True
+            self._lose()
             self.counts.lost += 1
+
+    def _lose(self) -> None:
+        """Of something nothing is known: a walk has to come."""
+        self.is_lost = True
+        self.hearing.miss()
 
     def _sort(self, events: list[Event], directories: Directories) -> None:
         """Has all that came wait, each for the person whose it is. Under the lock."""
@@ -285,9 +307,9 @@ class Narrowing:
 
         What is told of a file alone is told of its count of names, by which nobody has less.
         """
-        if not self.waiting.put(person, item) and person != ALONE:
+        if not self.waiting.put(person, item, self.hearing.until) and person != ALONE:
             self.counts.lost += not self.is_lost
-            self.is_lost = True
+            self._lose()
 
     def _whose(self, directory: int | None, known: int | None) -> int:
         """The person to whom an event counts: the owner of the known node, or of the directory.

@@ -51,10 +51,11 @@ class Reader:
         """Has another thread's `take` end."""
         os.write(self.wakes, b"!")
 
-    def take(self, seconds: float | None) -> tuple[list[Event], int]:
+    def take(self, seconds: float | None) -> tuple[list[Event], int, int]:
         """Waits for events, at most so long: those that came, and flags of what was lost.
 
-        Raises `Gone`.
+        And up to which moment all that the kernel told came, or is lost; 0 where that isn't known.
+        Each second there is an answer. Raises `Gone`.
         """
         try:
             if not self.is_asked:
@@ -64,13 +65,13 @@ class Reader:
             if self.waking in ready:
                 os.read(self.waking, 4096)
             if self.socket not in ready:
-                return [], 0
-            size, flags = HEAD.unpack(self._receive(HEAD.size))
+                return [], 0, 0
+            size, flags, until = HEAD.unpack(self._receive(HEAD.size))
             data = self._receive(size)
         except OSError as error:
             raise Gone(str(error)) from error
         self.is_asked = False
-        return events_in(data), flags
+        return events_in(data), flags, until
 
     def _receive(self, size: int) -> bytes:
         pieces = bytearray()

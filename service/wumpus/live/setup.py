@@ -35,6 +35,8 @@ def beside(
 ) -> Iterator[Narrowing | None]:
     """Takes rights away meanwhile, where turns go on and a service answers. Raises `Failed`."""
     if given.live == OFF or given.every is None or isinstance(reach, Direct):
+        if isinstance(reach, Served):
+            reach.unheard()
         yield None
         return
     roots = tuple(os.fsencode(root) for root in given.roots)

@@ -13,6 +13,7 @@ from typing import NamedTuple
 AT_MOST = 20_000  # that wait, of one person
 AT_ONCE = 20.0  # batches that one person may cause
 A_SECOND = 2.0  # and so many more each second
+LONG = 200  # items of one person's, over which her line is as late as she made it
 NOT_BOUNDED = 0  # user 0
 
 
@@ -29,7 +30,7 @@ class Item(NamedTuple):
 
 @dataclass(slots=True)
 class _Person:
-    items: "OrderedDict[Item, None]" = field(default_factory=OrderedDict)
+    items: "OrderedDict[Item, int]" = field(default_factory=OrderedDict)  # and since when each
     left: float = AT_ONCE  # batches, as of the moment `at`
     at: float = 0.0
 
@@ -43,8 +44,8 @@ class Waiting:
         self.turns: OrderedDict[int, _Person] = OrderedDict()  # who has items
         self.dropped = 0  # of persons who had too many
 
-    def put(self, person: int, item: Item) -> bool:
-        """Has something looked at: whether there is room."""
+    def put(self, person: int, item: Item, since: int = 0) -> bool:
+        """Has something looked at that was told of after this moment: whether there is room."""
         found = self.persons.get(person)
         if found is None:
             found = self.persons[person] = _Person(at=self.clock())
@@ -53,7 +54,7 @@ class Waiting:
         if len(found.items) >= AT_MOST:
             self.dropped += 1
             return False
-        found.items[item] = None
+        found.items[item] = since
         self.turns.setdefault(person, found)
         return True
 
@@ -69,6 +70,19 @@ class Waiting:
                     del self.turns[person]
                 return person, item
         return None
+
+    def since(self) -> int | None:
+        """The moment after which what waits was told of; None where nothing does.
+
+        It isn't asked of who has a long line, or has no batch left: she waits for herself.
+        """
+        now = self.clock()
+        moments = [
+            next(iter(found.items.values()))
+            for person, found in self.turns.items()
+            if len(found.items) <= LONG and self._left(person, found, now) >= 1.0
+        ]
+        return min(moments, default=None)
 
     def charge(self, person: int) -> None:
         """A batch was fed, for her among others."""

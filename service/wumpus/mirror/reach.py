@@ -4,8 +4,9 @@ The control socket of the service takes lines with TABs between their fields, an
 one: `ask LINE` passes a line to the program and answers `reply LINE`; `batch DUE`, which brings a
 file, feeds it whole; `live DUE` does so with one that only takes rights away, and saves nothing;
 `reset` moves the store aside; `fed MOMENT` tells when the walk began whose names and rights the
-program has; `done` tells that all that there is was fed once. `ok` is the answer to the last five,
-or `failed WHY`.
+program has; `heard SINCE UNTIL` that it has what the kernel told of from one moment to another and
+that gives less; `unheard` that the kernel tells nothing; `done` that all that there is was fed
+once. `ok` is the answer to all but the first, or `failed WHY`.
 """
 
 import contextlib
@@ -199,6 +200,19 @@ class Served:
     def fed(self, moment: int) -> None:
         """Tells how old the walk is whose names and rights were fed."""
         self._send(b"fed\t%d\n" % moment)
+        self._expect()
+
+    def heard(self, since: int, until: int) -> None:
+        """Tells that what became less by the kernel's word was fed, up to a moment.
+
+        What it told before `since` may have been missed: a walk finds that which began later.
+        """
+        self._send(b"heard\t%d\t%d\n" % (since, until))
+        self._expect()
+
+    def unheard(self) -> None:
+        """Tells that the kernel tells nothing."""
+        self._send(b"unheard\n")
         self._expect()
 
     def done(self) -> None:

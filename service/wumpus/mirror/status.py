@@ -21,6 +21,7 @@ from .turn import Mirror, Walked
 NAME = "mirror.status"
 FORMAT = 1
 EVERY = 2.0  # seconds between two writings
+AT_REST = 10.0  # where it would say the same
 
 
 class Told(Protocol):
@@ -35,7 +36,8 @@ class StatusFile:
 
     def __init__(self, folder: Path) -> None:
         self.path = folder / NAME
-        self.last = 0.0
+        self.last = self.looked = 0.0
+        self.before: dict[str, Any] = {}
         self.owners: dict[int, dict[str, int]] = {}  # names and bytes, as after the last walk
         self.documents = self.unmade = 0  # all, and those of which no text was made yet
         self.narrowing: Told | None = None
@@ -64,11 +66,15 @@ class StatusFile:
 
         What can't be written is told by its age.
         """
-        if not is_due and time.monotonic() - self.last < EVERY:
+        now = time.monotonic()
+        if not is_due and now - self.looked < EVERY:
             return
-        self.last = time.monotonic()
+        self.looked, told = now, self._told(mirror, doing, trouble)
+        if not is_due and told == self.before and now - self.last < AT_REST:
+            return
+        self.last, self.before = now, told
         with contextlib.suppress(OSError):
-            write_whole(self.path, json.dumps(self._told(mirror, doing, trouble)).encode())
+            write_whole(self.path, json.dumps({**told, "written": time.time()}).encode())
 
     def _told(self, mirror: Mirror | None, doing: str, trouble: str | None) -> dict[str, Any]:
         walked, pending, remarks = Walked(), Pending(), Remarks(lambda *_: None)
@@ -79,7 +85,6 @@ class StatusFile:
             held, unread = mirror.report.held, mirror.documents.trouble
         return {
             "format": FORMAT,
-            "written": time.time(),
             "state": doing,
             "trouble": trouble,
             "walk": {

@@ -32,7 +32,8 @@ class Bounds:
     batch_seconds: float = 3600.0
     idle_seconds: float = 60.0
     age_seconds: float = 600.0
-    stale_seconds: float = 900.0  # 0: never
+    stale_seconds: float = 900.0  # since a walk began; 0: never
+    silent_seconds: float = 30.0  # since the moment that a live mirror told; 0: never
     faults: int = 16  # lines of one connection that weren't asked
 
 

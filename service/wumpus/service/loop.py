@@ -25,7 +25,7 @@ from .allowed import Allowed
 from .clients import Bounds, Clients, Query
 from .control import Control, Controls
 from .engine import Engine
-from .freshness import Freshness, Told
+from .freshness import CLAIMS, Freshness, Told, number_in
 from .groups import Groups
 from .merging import Merging
 from .tasks import Asked, Cause, Failure, Fed, Line, NoFile
@@ -73,7 +73,9 @@ class Service:
         self.turns = Turns()
         self.waits = Waits()
         self.merging = Merging(places.folder, log, saved=self.unsaved.saved)
-        self.freshness = Freshness(moment, int(bounds.stale_seconds * 1000))
+        self.freshness = Freshness(
+            moment, int(bounds.stale_seconds * 1000), int(bounds.silent_seconds * 1000)
+        )
         self.clients = Clients(
             places.ask,
             self.selector,
@@ -237,11 +239,8 @@ class Service:
             self._feed(control, fields, file)
         elif fields[0] == b"ask" and len(fields) == 2:
             self._question(control, unescape(fields[1]))
-        elif fields[0] == b"fed" and len(fields) == 2:
-            self._fed(control, _number(fields[1]))
-        elif fields == [b"done"]:
-            self.freshness.is_done = True
-            self.controls.tell(control, OK)
+        elif fields[0] in CLAIMS:
+            self._claimed(control, self.freshness.claim(fields))
         elif fields == [b"reset"]:
             self._reset(control)
         else:
@@ -267,12 +266,8 @@ class Service:
         control.is_served = True
         self.engine.give(Line(line + b"\n", ends))
 
-    def _fed(self, control: Control, began: int | None) -> None:
-        """A mirror tells that a walk is in the program, whole."""
-        if began is None:
-            self._fail(control, "not understood")
-            return
-        told = self.freshness.fed(began)
+    def _claimed(self, control: Control, told: Told) -> None:
+        """Answers what a mirror tells of what the program has."""
         if told is Told.TAKEN:
             self.controls.tell(control, OK)
         else:
@@ -283,7 +278,7 @@ class Service:
 
         One that is `live` takes rights away and has no save in its last line.
         """
-        due = _number(fields[1]) if len(fields) == 2 else None
+        due = number_in(fields[1]) if len(fields) == 2 else None
         kept = os.dup(file) if fields[0] == b"live" else None
 
         def ends(failure: Failure | None, _taken: float) -> None:
@@ -294,14 +289,12 @@ class Service:
                 return
             if kept is not None:
                 os.close(kept)
-            self._batch_failed(control, failure)
+            self._batch_failed(control, failure, kept is not None)
 
         try:
             task = Fed(file, due or 0, ends)
         except NoFile as error:
-            if kept is not None:
-                os.close(kept)
-            self._batch_failed(control, Failure(Cause.OTHERS, str(error)))
+            ends(Failure(Cause.OTHERS, str(error)), 0.0)
             return
         if not due:
             task.fail(Failure(Cause.OTHERS, "not understood"), 0.0)
@@ -321,9 +314,12 @@ class Service:
         self.freshness.batch_went_in()
         self.merging.fed()
 
-    def _batch_failed(self, control: Control, failure: Failure) -> None:
-        """A batch isn't in the program, so what its walk saw isn't either."""
-        self.freshness.batch_failed()
+    def _batch_failed(self, control: Control, failure: Failure, is_live: bool) -> None:
+        """A batch isn't in the program, so what its walk saw, or what was heard, isn't either."""
+        if is_live:
+            self.freshness.live_batch_failed()
+        else:
+            self.freshness.batch_failed()
         self.batches_failed += 1
         is_memory = failure.cause is Cause.MEMORY
         self._fail(control, f"memory: {failure.why}" if is_memory else failure.why)
@@ -401,8 +397,3 @@ class Service:
         self.controls.end()
         self.selector.close()
         return 0 if status == 0 else 1
-
-
-def _number(field: bytes) -> int | None:
-    """A number of at most 18 digits, or None."""
-    return int(field) if field.isdigit() and len(field) <= 18 else None

@@ -77,6 +77,9 @@ def _limits(options: argparse.ArgumentParser, bounds: Bounds) -> None:
     add("--stale", type=seconds_or_never, default=bounds.stale_seconds, metavar="SECONDS",
         help="nothing is answered where the mirror's last walk began longer ago "
         f"({bounds.stale_seconds:.0f}; 0: never)")  # fmt: skip
+    add("--stale-live", type=seconds_or_never, metavar="SECONDS",
+        help="nor where a mirror that the kernel tells of changes is behind for longer "
+        f"({bounds.silent_seconds:.0f}, 0 with --stale 0; 0: never)")  # fmt: skip
     add("--query-seconds", type=seconds, default=bounds.query_seconds, metavar="SECONDS",
         help="of the processor, that a query may take "
         f"({bounds.query_seconds:.0f})")  # fmt: skip
@@ -91,7 +94,8 @@ def _limits(options: argparse.ArgumentParser, bounds: Bounds) -> None:
 
 
 def bounds_of(given: argparse.Namespace) -> Bounds:
-    """The limits that the options set."""
+    """The limits that the options set. Who wants answers by old rights means all of them."""
+    silent = Bounds().silent_seconds if given.stale else 0.0
     return Bounds(
         connections=given.connections,
         connections_of_user=given.connections_of_user,
@@ -100,6 +104,7 @@ def bounds_of(given: argparse.Namespace) -> Bounds:
         idle_seconds=given.idle_seconds,
         age_seconds=given.age_seconds,
         stale_seconds=given.stale,
+        silent_seconds=silent if given.stale_live is None else given.stale_live,
     )
 
 

@@ -19,13 +19,14 @@ SLOW_AT_MOST = 1000  # persons in the file
 def status_of(service: Service, started: float) -> dict[str, Any]:
     """What the file says: ages in seconds, sizes in bytes, and moments as seconds since 1970."""
     now = time.time()
-    age = service.freshness.age()
+    age, heard = service.freshness.age(), service.freshness.heard_age()
     engine, clients = service.engine, service.clients
     return {
         "format": FORMAT,
         "written": now,
         "started": started,
         "fed_age": None if age is None else age / 1000,
+        "heard_age": None if heard is None else heard / 1000,
         "stale": service.freshness.is_stale(),
         "ready": service.freshness.is_done,
         "program": {
@@ -84,7 +85,7 @@ class Reports:
         if not service.freshness.is_done:
             words = b"no turn of the mirror is done"
         elif service.freshness.is_stale():
-            words = b"nothing is answered: the mirror's last walk is too long ago"
+            words = b"nothing is answered: the mirror's last word is too long ago"
         else:
             words = b"answering"
         if words != self.told:

@@ -25,7 +25,7 @@ def _of_service(service: ServiceStatus, now: float) -> Iterator[str]:
     if now - service.written > SILENT:
         yield f"the service has told nothing for {now - service.written:.0f} s: does wumpusd run?"
     if service.is_stale:
-        yield "nobody is answered: the last walk that was fed is too long ago (stale)"
+        yield "nobody is answered: what the mirror told last is too long ago (stale)"
     elif not service.is_ready:
         yield "nobody is answered yet: the mirror's first turn isn't done"
 

@@ -183,7 +183,10 @@ class Slow:
 
 @dataclass(frozen=True)
 class ServiceStatus:
-    """What the service tells. `fed_age`, in seconds, is that of the rights by which it answers."""
+    """What the service tells. `fed_age`, in seconds, is that of the rights by which it answers.
+
+    `heard_age` is that of what the kernel took away; None where a walk has to tell.
+    """
 
     written: float
     started: float
@@ -200,6 +203,7 @@ class ServiceStatus:
     slow: list[Slow]
     fed: int
     failed: int
+    heard_age: float | None = None
 
 
 @dataclass(frozen=True)
@@ -337,4 +341,5 @@ def _service_of(told: Fields) -> ServiceStatus:
         slow=[Slow(one.whole("uid"), one.seconds("until")) for one in told.objects("slow")],
         fed=batches.whole("fed"),
         failed=batches.whole("failed"),
+        heard_age=told.seconds_or_none("heard_age"),
     )

@@ -46,6 +46,9 @@ def of_service(service: ServiceStatus) -> Iterator[Metric]:
     yield _gauge("ready", "Whether the mirror's first turn is done.", service.is_ready)
     if service.fed_age is not None:
         yield _gauge("rights_age_seconds", "How old the rights are.", service.fed_age)
+    if service.heard_age is not None:
+        about = "How old what is taken away at once is."
+        yield _gauge("taken_age_seconds", about, service.heard_age)
     yield _gauge("program_memory_bytes", "Memory of the program.", service.memory)
     yield _gauge("connections", "Connections of users.", service.connections)
     yield _gauge("queries_waiting", "Queries that wait.", service.waiting)

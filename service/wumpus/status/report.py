@@ -53,7 +53,9 @@ def counts(told: dict[str, int]) -> str:
 
 def _of_service(service: ServiceStatus) -> Iterator[str]:
     age = "none was fed" if service.fed_age is None else f"{service.fed_age:.0f} s old"
-    yield f"service    since {moment(service.started)}; rights: {age}"
+    heard = service.heard_age
+    taken = "" if heard is None else f", what is taken away at once: {heard:.0f} s"
+    yield f"service    since {moment(service.started)}; rights: {age}{taken}"
     yield f"  program  starts: {service.starts}; {size(service.memory)}"
     yield from (f"           ended: {plain(one)}" for one in service.why)
     yield f"  queries  {service.answered} answered; refused: {counts(service.refused)}"
