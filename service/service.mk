@@ -20,6 +20,7 @@ SERVICE_TESTS := \
 	at_once \
 	kills \
 	silent \
+	mounts \
 	judged \
 	client \
 	web \

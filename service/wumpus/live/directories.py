@@ -60,6 +60,7 @@ class Directories:
     mounts: Mounts = field(default_factory=Mounts)
     lock: threading.Lock = field(default_factory=threading.Lock)  # for the list of mounts
     bad: dict[int, tuple[bytes, str]] = field(default_factory=dict)
+    is_unreached: bool = False  # an event told of what is on a system that can't be opened
 
     def close(self) -> None:
         """Closes what is open."""
@@ -108,6 +109,14 @@ class Directories:
         taking.run()
         moved = [one for one, place in places.items() if before.get(one, place) != place]
         return [*taking.differing, *moved]
+
+    def path_of(self, number: int) -> bytes:
+        """The path of a directory, by the names that it and those above it have."""
+        names: list[bytes] = []
+        while number != ROOT and number in self.places:
+            number, name = self.places[number]
+            names.append(name)
+        return b"/" + b"/".join(reversed(names))
 
     def _ways(self, tree: Tree) -> set[int]:
         """The directories above the roots."""
@@ -327,13 +336,25 @@ class Beside:
             return None
         try:
             descriptor = self.directories.open_path(system.path)  # a place alone won't do
-        except OSError:
+        except OSError as error:
+            self._tell(system, error.strerror or str(error))
             return None
         if _system_at(descriptor) != (system.device, number):
             os.close(descriptor)
+            self._tell(system, "another file system is there")
             return None
         self.places[number] = descriptor
         return descriptor
+
+    def _tell(self, system: System, why: str) -> None:
+        """A system that is marked can't be opened: what events tell of it isn't looked at."""
+        self.directories.bad[system.device] = (system.path, why)
+        self.directories.is_unreached = True
+
+    def is_known(self, directory: int) -> bool:
+        """Whether a directory is on a file system that is marked."""
+        key, _ = self.directories.keys.get(directory, (b"", 0))
+        return system_in(key) in self.numbers
 
     def close(self) -> None:
         """Closes the places."""

@@ -24,6 +24,7 @@ from . import calls
 from .directories import Beside, Directories
 from .events import Unreadable, told_in
 from .hearing import Hearing
+from .mounting import Mounting, node_at
 from .reader import Event, Gone, Reader
 from .seeing import Seeing
 from .waiting import Item, Waiting
@@ -104,6 +105,7 @@ class Narrowing:
         self.walk_at = 0.0  # the moment before which no walk comes for what was lost
         self.reader: Reader | None = None
         self.directories: Directories | None = None
+        self.mounting: Mounting | None = None
         self.waiting = Waiting()
         self.hearing = Hearing(reach)
         self.compared: Tree | None = None  # the tree whose directories are known
@@ -170,6 +172,8 @@ class Narrowing:
         if self.thread.is_alive():
             self.thread.join(END_SECONDS)
         self._end_reader()
+        if self.mounting is not None:
+            self.mounting.close()
         self.planner.close()
         self.reach.close()
 
@@ -200,7 +204,9 @@ class Narrowing:
             return
         self.directories = Directories(_GroupMarks(watcher, group), self.settings.roots)
         self.compared = None
-        self.reader = Reader(group)
+        self.mounting = self.mounting or Mounting(self.settings.roots)
+        self.reader = Reader(group, self.mounting.descriptor)
+        self.reader.is_mounted = True
         self.why, self.is_gone = None, False
         self.begun.set()
 
@@ -260,6 +266,7 @@ class Narrowing:
                 self.waiting = Waiting()
             else:
                 self._count_lost(flags)
+                self._look_at_mounts()
                 self._sort(events, directories)
                 self.hearing.until = until or self.hearing.until
                 fed = self._round(directories)
@@ -277,6 +284,22 @@ class Narrowing:
         if flags:
             self._lose()
             self.counts.lost += 1
+
+    def _look_at_mounts(self) -> None:
+        """Where something was mounted or unmounted, what was there is looked at, and a walk comes.
+
+        No user can have walks come by mounts of her own. Under the lock.
+        """
+        reader, mounting = self.reader, self.mounting
+        if reader is None or mounting is None or not reader.is_mounted:
+            return
+        reader.is_mounted = False
+        for mount in mounting.changes():
+            number = node_at(self.mirror.state.tree, mount.place)
+            if number is not None:
+                self._put(self._person_of(number), Item(number))
+            if mounting.needs_walk(mount):
+                self._lose()
 
     def _lose(self) -> None:
         """Of something nothing is known: a walk has to come."""
@@ -346,6 +369,9 @@ class Narrowing:
                         persons.add(person)
         finally:
             beside.close()
+        if directories.is_unreached:
+            directories.is_unreached = False
+            self._lose()
         if not found:
             return False
         self.feeder.take_away(list(found.values()), self.reach, self.planner)

@@ -23,10 +23,15 @@ class Gone(Exception):
 
 
 class Reader:
-    """Begins the process over a group, which is its own from then on."""
+    """Begins the process over a group, which is its own from then on.
 
-    def __init__(self, group: int) -> None:
+    `mounts` is the list of mounts, open to be waited for; `is_mounted` tells that it is another one.
+    """
+
+    def __init__(self, group: int, mounts: int) -> None:
         self.group = group
+        self.mounts = mounts
+        self.is_mounted = False
         self.socket, theirs = socket.socketpair()
         folder = Path(__file__).resolve().parent.parent.parent
         words = [sys.executable, "-I", "-c", PROGRAM, str(folder), str(group), str(theirs.fileno())]
@@ -61,7 +66,9 @@ class Reader:
             if not self.is_asked:
                 self.socket.sendall(ASKS)
                 self.is_asked = True
-            ready, _, _ = select.select([self.socket, self.waking], [], [], seconds)
+            waited_for = [self.socket, self.waking]
+            ready, _, others = select.select(waited_for, [], [self.mounts], seconds)
+            self.is_mounted = self.is_mounted or bool(others)
             if self.waking in ready:
                 os.read(self.waking, 4096)
             if self.socket not in ready:

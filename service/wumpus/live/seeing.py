@@ -82,7 +82,8 @@ class Seeing:
         return [(node.number, NOBODY)] if is_told else []
 
     def _is_there(self, node: Node) -> bool:
-        """Whether a directory has its name. What is mounted somewhere can't be renamed."""
+        """Whether a directory has its name. What is mounted somewhere can't be renamed, but may be
+        unmounted, or have something else mounted over it."""
         if node.number == ROOT:
             return True
         parent, name = self.directories.places.get(node.number, (0, b""))
@@ -90,7 +91,7 @@ class Seeing:
         if above is None:
             return False
         if self._is_mount(node, parent):
-            return True
+            return self._is_mounted(node)
         try:
             descriptor = self.directories.open(parent, self.beside)
             if descriptor is None:
@@ -105,6 +106,17 @@ class Seeing:
             return identity_of(os.fstat(place)) == node.identity
         finally:
             os.close(place)
+
+    def _is_mounted(self, node: Node) -> bool:
+        """Whether a directory is found by its path, on which others are mounted."""
+        try:
+            descriptor = self.directories.open_path(self.directories.path_of(node.number))
+        except OSError:
+            return False
+        try:
+            return identity_of(os.fstat(descriptor)) == node.identity
+        finally:
+            os.close(descriptor)
 
     def _is_mount(self, node: Node, parent: int) -> bool:
         """Whether a node is the root of another file system than the directory in which it is."""
@@ -121,7 +133,7 @@ class Seeing:
         except OSError:
             return [(node.number, NOBODY), *self._itself(directory)]
         if above is None:
-            return []
+            return [(node.number, NOBODY)] if self.beside.is_known(directory) else []
         try:
             descriptor = open_here(above, name)
         except OSError as error:

@@ -70,6 +70,13 @@ class Mounts:
         if self.poll.poll(0):
             self._read()
 
+    def changes(self) -> list[Mount]:
+        """Reads the list again: what was mounted, or unmounted, since it was read last."""
+        before = self.by_number
+        self._read()
+        differing = before.items() ^ self.by_number.items()
+        return [mount for _, mount in differing]
+
     def left_out_in(self, directory: bytes) -> dict[bytes, str]:
         """The names in a directory at which something is mounted that isn't walked, and its kind.
 
