@@ -1,11 +1,12 @@
 -- What the checks of a batch find out: a batch in which nothing is wrong fits.
-use Rattle.std.proofs.Common.{◌≡◌, ◌≢◌, ℕ, ◌+◌, ◌<◌, ◌≤◌, List, [], ◌∷◌, map, length, get_or, refl, sym, ap, subst, Bool, true, false, cond}
+use Rattle.std.proofs.Common.{◌≡◌, ◌≢◌, ℕ, ◌+◌, ◌<◌, ◌≤◌, List, [], ◌∷◌, map, length, get_or, refl, sym, ap, ◌∙◌, subst, Bool, true, false, cond}
 use Rattle.std.proofs.Common.{◌&&◌, ◌||◌, ◌==◌, not, eqb, nat_eq, nat_lt, arith, IsPermutation, IsSorted, nat_cmp, inl, inr}
-use Rattle.std.proofs.Common.{true≢false, zero-le, le_antisymm, ltb-false, Option, None, Some, is_some, Result, Ok, Err, IfOk, IfNone, ◌⊎◌}
+use Rattle.std.proofs.Common.{true≢false, zero-le, le_antisymm, ltb-false, Option, None, Some, is_some, Result, Ok, Err, IfOk, IfNone, IfSome, ◌⊎◌}
 use Rattle.std.specs.Cmp.{nat_eq_equiv}
 use Rattle.std.specs.List.{AllByRecursion, IsDistinct, list_all}
-use Rattle.std.proofs.lemmas.Bool.{eqb-true, eqb-false, ne_eqb, false≢true}
-use Rattle.std.proofs.lemmas.List.Sorted.{IsNonDecreasingBy-from_sort, IsPermutation-sym}
+use Rattle.std.proofs.lemmas.Bool.{eqb-true, eqb-false, eq-eqb, ne_eqb, false≢true}
+use Rattle.std.proofs.lemmas.List.Sorted.{IsNonDecreasingBy-from_sort, IsPermutation-sym, sum_by-IsPermutation}
+use Rattle.std.proofs.lemmas.List.Sums.{sum_by_more, sum_by_more_le}
 use Rattle.std.proofs.lemmas.Map.Keys.{IsDistinct-IsPermutation, IsDistinct-from_apart, IsDistinct-head, IsDistinct-tail}
 use Rattle.wu_access.specs.declared.UserRec.{UserRec}
 use Rattle.wu_tree.specs.declared.events.Kind.{Kind}
@@ -15,9 +16,11 @@ use Rattle.wu_mirror.specs.declared.batches.TheConstants.{CLOSED}
 use Rattle.wu_mirror.specs.declared.batches.Batch.{Batch}
 use Rattle.wu_mirror.specs.declared.batches.Change.{Change}
 use Rattle.wu_mirror.specs.declared.batches.Place.{Place}
-use Rattle.wu_mirror.specs.declared.checks.Fault.TheVariants.{Reserved, Root, ManyNames, Unnamed, Text, Name}
+use Rattle.wu_mirror.specs.declared.checks.Fault.TheVariants.{Reserved, Root, ManyNames, Unnamed, Text, Name, Order}
+use Rattle.wu_mirror.specs.declared.checks.Misfit.{Misfit}
 use Rattle.wu_mirror.specs.Misfits.{Fits, IsPlace, IsSound}
-use Rattle.wu_mirror.specs.Faults.{fault_of, fault_of_names, fault_of_root, has_many_names, is_kept_directory, is_named, is_place, may_have_text}
+use Rattle.wu_mirror.specs.Faults.{at_fault, fault_of, fault_of_names, fault_of_root, first_fault, has_many_names, is_kept_directory, is_named, is_place}
+use Rattle.wu_mirror.specs.Faults.{IsTwice, may_have_text}
 use Rattle.wu_mirror.specs.Moments.{AreApart, is_told}
 use Rattle.wu_mirror.specs.Plans.{is_empty}
 
@@ -185,3 +188,39 @@ pub in_any : {P T E : Type 0} → P → (r : Result (Option T) E) → IfOk r (λ
 in_any p (Ok None) = p
 in_any p (Ok (Some x)) = tt
 in_any p (Err e) = tt
+
+-- ---- what is found
+-- no change has a fault where none is the first
+pub sound_all : (changes : List Change) → first_fault changes ≡ None → AllByRecursion (λ change. fault_of change ≡ None) changes
+sound_all [] h = tt
+sound_all (change ∷ changes) h =
+    elim (fault_of change) as (λ o. at_fault change.ino o (first_fault changes) ≡ None
+    → (o ≡ None) × AllByRecursion (λ change. fault_of change ≡ None) changes) [
+      | None ↦ λ g. (refl, sound_all changes g)
+      | Some fault ↦ λ g. absurd cc
+    ] h
+
+-- a number that follows itself is there twice
+pub twice_if : (xs : List ℕ) (k number : ℕ) → k + 1 < length xs → get_or xs k 0 ≡ number → get_or xs (k + 1) 0 ≡ number → IsTwice number xs
+twice_if xs k number within e g =
+    let f = λ (x : ℕ). cond {A = ℕ} (x == number) 1 0 in
+    let one : f (get_or xs k 0) ≡ 1 = ap f e ∙ ap (λ b. cond {A = ℕ} b 1 0) (eq-eqb number number refl) in
+    let two : f (get_or xs (k + 1) 0) ≡ 1 = ap f g ∙ ap (λ b. cond {A = ℕ} b 1 0) (eq-eqb number number refl) in
+    let more = sum_by_more f xs k 0 (omega arith) in
+    let all = sum_by_more_le f xs (k + 1) 0 within in
+    omega (arith, one, two, more, all)
+
+pub twice_before : (xs ys : List ℕ) → IsPermutation xs ys → (number : ℕ) → IsTwice number ys → IsTwice number xs
+twice_before xs ys p number h = omega (arith, sum_by-IsPermutation (λ (x : ℕ). cond {A = ℕ} (x == number) 1 0) xs ys p)
+
+pub twice_found : (xs ys : List ℕ) → IsPermutation xs ys → (found : Option ℕ) → IfSome found (λ number. IsTwice number ys)
+    → IfSome found (λ number. IsTwice number xs)
+twice_found xs ys p None h = tt
+twice_found xs ys p (Some number) h = twice_before xs ys p number h
+
+-- a fault of the order is one of the two that are told of several changes
+pub order_or : {E : Type 0} (P : Misfit → Type 0) (r : Result (Option Misfit) E) → IfOk r (λ found. IfSome found (λ misfit. misfit.fault ≡ Order))
+    → IfOk r (λ found. IfSome found (λ misfit. P misfit ⊎ (misfit.fault ≡ Order)))
+order_or P (Ok None) h = tt
+order_or P (Ok (Some misfit)) h = inr h
+order_or P (Err e) h = tt

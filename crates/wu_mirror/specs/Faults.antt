@@ -1,17 +1,21 @@
--- What is wrong in one change of a batch by itself.
-use Rattle.std.specs.Prelude.{ℕ, length, Bool, true, false, ◌&&◌, ◌||◌, not, cond, ◌==◌, nat_lt, Option, None, Some}
+-- What is wrong in one change of a batch by itself, and what is told of a batch that can't be planned.
+use Rattle.std.specs.Prelude.{◌≡◌, ◌⊎◌, ◌≤◌, ℕ, length, Bool, true, false, ◌&&◌, ◌||◌, not, cond, ◌==◌, nat_lt, Option, None, Some, List, [], ◌∷◌}
+use Rattle.std.specs.Prelude.{map, count_by}
 use Rattle.std.specs.List.{list_all}
 use Rattle.wu_tree.specs.declared.events.Kind.{Kind}
 use Rattle.wu_tree.specs.declared.events.Kind.TheVariants.{Directory, File}
 use Rattle.wu_tree.specs.FileSystems.{is_name}
+use Rattle.wu_mirror.specs.Moments.{is_told}
 use Rattle.wu_mirror.specs.Plans.{is_empty}
 use Rattle.wu_mirror.specs.declared.batches.TheConstants.{CLOSED}
+use Rattle.wu_mirror.specs.declared.batches.Batch.{Batch}
 use Rattle.wu_mirror.specs.declared.batches.Change.{Change}
 use Rattle.wu_mirror.specs.declared.batches.Fate.{Fate}
 use Rattle.wu_mirror.specs.declared.batches.Fate.TheVariants.{Stays, Made, Goes}
 use Rattle.wu_mirror.specs.declared.batches.Place.{Place}
 use Rattle.wu_mirror.specs.declared.checks.Fault.{Fault}
-use Rattle.wu_mirror.specs.declared.checks.Fault.TheVariants.{Reserved, Root, Unnamed, ManyNames, Text, Name}
+use Rattle.wu_mirror.specs.declared.checks.Fault.TheVariants.{Reserved, Root, Unnamed, ManyNames, Text, Name, NumberTwice, NameTwice, Order, OpenRoot, UserTwice}
+use Rattle.wu_mirror.specs.declared.checks.Misfit.{Misfit}
 
 -- a name that a node may have, in another directory than the closed one
 abbrev pub is_place : Place → Bool
@@ -64,3 +68,29 @@ fault_of change =
     (cond (not (list_all is_place change.going) || not (list_all is_place change.coming)) (Some Name)
     (cond (change.ino == 1) (fault_of_root change)
     (fault_of_names change.kind change.fate (length change.going) (length change.coming)))))
+
+-- ---- what is told of a batch
+
+-- the fault of that node, if it is one, and else what is told of others
+abbrev pub at_fault : ℕ → Option Fault → Option Misfit → Option Misfit
+at_fault ino None others = others
+at_fault ino (Some fault) others = Some (record { number = ino; fault = fault })
+
+-- the first change in which something is wrong by itself
+abbrev pub first_fault : List Change → Option Misfit
+first_fault [] = None
+first_fault (change ∷ changes) = at_fault change.ino (fault_of change) (first_fault changes)
+
+-- the number is there twice, or more often
+abbrev pub IsTwice : ℕ → List ℕ → Type 0
+IsTwice number numbers = 2 ≤ count_by (λ other. other == number) numbers
+
+-- What is told of a batch: the first fault of one change by itself; or a user that is there twice; or that the root is missing where
+-- groups change; or a number that is there twice; or something of several changes.
+abbrev pub IsMisfitOf : Batch → Misfit → Type 0
+IsMisfitOf batch found =
+    (first_fault batch.changes ≡ Some found)
+    ⊎ (((found.fault ≡ UserTwice) × IsTwice found.number (map (λ user. user.uid) batch.users))
+    ⊎ (((found.fault ≡ OpenRoot) × (found.number ≡ 1) × ((is_empty batch.users || is_told batch.changes 1) ≡ false))
+    ⊎ (((found.fault ≡ NumberTwice) × IsTwice found.number (map (λ change. change.ino) batch.changes))
+    ⊎ ((found.fault ≡ Order) ⊎ (found.fault ≡ NameTwice)))))

@@ -7,9 +7,6 @@ pub mod Plans
 pub mod Moments
 -- what it takes that each event is accepted
 pub mod Acceptance
--- what is checked of a batch alone
+-- what is checked of a batch alone, and what is told of it
 pub mod Misfits
--- ---- What private functions and proofs cite
-
--- what is wrong in one change by itself
 pub mod Faults

@@ -1,11 +1,12 @@
 //! What a batch has to keep so that it can be planned.
-ghost use Rattle.std.specs.Prelude.{◌≡◌, ◌||◌, IfNone, IfOk, IsSorted, None, map, nat_eq};
+ghost use Rattle.std.specs.Prelude.{◌≡◌, ◌⊎◌, ◌||◌, IfNone, IfOk, IfSome, IsSorted, map, nat_eq};
 ghost use Rattle.std.specs.Ordering.{nat_cmp};
-ghost use Rattle.std.specs.List.{AllByRecursion, IsDistinct, list_all};
+ghost use Rattle.std.specs.List.{IsDistinct, list_all};
 ghost use Rattle.wu_tree.specs.FileSystems.{are_name_bytes, is_dots as dots_test, is_name as name_test, is_name_length};
 ghost use Rattle.wu_mirror.specs.Moments.{AreApart, is_told};
 ghost use Rattle.wu_mirror.specs.Plans.{is_empty};
-ghost use Rattle.wu_mirror.specs.Faults.{fault_of, fault_of_names as names_fault, fault_of_root as root_fault, is_named, is_place, may_have_text};
+ghost use Rattle.wu_mirror.specs.Faults.{fault_of, fault_of_names as names_fault, fault_of_root as root_fault, first_fault, is_named, is_place, may_have_text, IsMisfitOf, IsTwice};
+ghost use Rattle.wu_mirror.specs.declared.checks.Fault.TheVariants.{NameTwice, NumberTwice, Order, UserTwice};
 ghost use Rattle.wu_mirror.specs.Misfits.{Fits};
 
 use crate::batches::{Batch, CLOSED, Change, Fate, Place};
@@ -67,6 +68,7 @@ pub struct Misfit {
 /// several changes. The one error is out of memory. The time is that of sorting numbers and names.
 pub fn find_misfit(alloc: Global, batch: &Batch) -> Result<Option<Misfit>, NoMemory>
     ensures none { IfOk result (λ found. IfNone found (Fits batch.now)) }
+    ensures some { IfOk result (λ found. IfSome found (IsMisfitOf batch.now)) }
 {
     let changes = batch.changes.as_slice();
     if let Some(found) = change_misfit(changes) {
@@ -113,7 +115,7 @@ fn has_root(changes: &[Change]) -> bool
 
 /// The first change in which something is wrong by itself, and what is.
 fn change_misfit(changes: &[Change]) -> Option<Misfit>
-    ensures none { IfNone result (AllByRecursion (λ change. fault_of change ≡ None) changes.now) }
+    ensures { result ≡ first_fault changes.now }
 {
     for change in changes {
         if let Some(fault) = fault_in(change) {
@@ -238,6 +240,8 @@ fn is_dots(name: &[u8]) -> bool
 /// The user that is there twice.
 fn user_misfit(alloc: Global, users: &[UserRec]) -> Result<Option<Misfit>, NoMemory>
     ensures none { IfOk result (λ found. IfNone found (IsDistinct nat_eq (map (λ user. user.uid) users.now))) }
+    ensures some { IfOk result (λ found. IfSome found (λ misfit.
+        (misfit.fault ≡ UserTwice) × IsTwice misfit.number (map (λ user. user.uid) users.now))) }
 {
     let mut numbers = uids_of(alloc, users)?;
     numbers.sort()?;
@@ -263,6 +267,7 @@ fn uids_of(alloc: Global, users: &[UserRec]) -> Result<Vec<Uid>, NoMemory>
 /// Of numbers that ascend the first that stands there twice.
 fn doubled(numbers: &[u32]) -> Option<u32>
     ensures none { IfNone result (IsSorted nat_cmp numbers.now → IsDistinct nat_eq numbers.now) }
+    ensures some { IfSome result (λ number. IsTwice number numbers.now) }
 {
     for place in 1..numbers.len() {
         if numbers[place - 1] == numbers[place] {
@@ -278,6 +283,8 @@ type Spot = (Ino, usize);
 /// The number that is there twice, or the directory that stands before that in which it stands.
 fn number_misfit(alloc: Global, changes: &[Change]) -> Result<Option<Misfit>, NoMemory>
     ensures none { IfOk result (λ found. IfNone found (AreApart changes.now)) }
+    ensures some { IfOk result (λ found. IfSome found (λ misfit.
+        ((misfit.fault ≡ NumberTwice) × IsTwice misfit.number (map (λ change. change.ino) changes.now)) ⊎ (misfit.fault ≡ Order))) }
 {
     if let Some(number) = doubled_number(alloc, changes)? {
         return Ok(Some(Misfit {
@@ -291,6 +298,7 @@ fn number_misfit(alloc: Global, changes: &[Change]) -> Result<Option<Misfit>, No
 /// The number that is there twice.
 fn doubled_number(alloc: Global, changes: &[Change]) -> Result<Option<Ino>, NoMemory>
     ensures none { IfOk result (λ found. IfNone found (IsDistinct nat_eq (map (λ change. change.ino) changes.now))) }
+    ensures some { IfOk result (λ found. IfSome found (λ number. IsTwice number (map (λ change. change.ino) changes.now))) }
 {
     let mut numbers = numbers_of(alloc, changes)?;
     numbers.sort()?;
@@ -308,7 +316,9 @@ fn numbers_of(alloc: Global, changes: &[Change]) -> Result<Vec<Ino>, NoMemory>
 }
 
 /// The directory that stands before that in which it stands.
-fn order_misfit(alloc: Global, changes: &[Change]) -> Result<Option<Misfit>, NoMemory> {
+fn order_misfit(alloc: Global, changes: &[Change]) -> Result<Option<Misfit>, NoMemory>
+    ensures { IfOk result (λ found. IfSome found (λ misfit. misfit.fault ≡ Order)) }
+{
     let spots = spots_of(alloc, changes)?;
     for (place, change) in changes.iter().enumerate() {
         if !is_in_order(spots.as_slice(), place, change) {
@@ -357,7 +367,9 @@ fn place_of(spots: &[Spot], ino: Ino) -> Option<usize> {
 type Named<'a> = (Ino, &'a [u8], Ino);
 
 /// The node of which a name goes or comes that goes or comes twice.
-fn name_misfit(alloc: Global, changes: &[Change]) -> Result<Option<Misfit>, NoMemory> {
+fn name_misfit(alloc: Global, changes: &[Change]) -> Result<Option<Misfit>, NoMemory>
+    ensures { IfOk result (λ found. IfSome found (λ misfit. misfit.fault ≡ NameTwice)) }
+{
     let mut going = Vec::new(alloc);
     let mut coming = Vec::new(alloc);
     for change in changes {
@@ -382,7 +394,9 @@ fn put_names<'a>(
 }
 
 /// The node that has a name that is there twice.
-fn doubled_name(names: &mut Vec<Named>) -> Result<Option<Misfit>, NoMemory> {
+fn doubled_name(names: &mut Vec<Named>) -> Result<Option<Misfit>, NoMemory>
+    ensures { IfOk result (λ found. IfSome found (λ misfit. misfit.fault ≡ NameTwice)) }
+{
     names.sort()?;
     let pair = names
         .windows(2)

@@ -1,7 +1,6 @@
-use Rattle.std.proofs.Common.{◌≡◌, take, None}
-use Rattle.std.specs.List.{AllByRecursion}
-use Rattle.wu_mirror.specs.Faults.{fault_of}
+use Rattle.std.proofs.Common.{◌≡◌, drop}
+use Rattle.wu_mirror.specs.Faults.{first_fault}
 use Rattle.wu_mirror.proofs.checks.change_misfit.Given as goal
 
 abbrev pub invariant-loop-change : goal.invariant-loop-change
-invariant-loop-change l = AllByRecursion (λ change. fault_of change ≡ None) (take l.change-index l.changes)
+invariant-loop-change l = first_fault l.changes ≡ first_fault (drop l.change-index l.changes)

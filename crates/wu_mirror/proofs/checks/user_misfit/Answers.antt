@@ -8,4 +8,4 @@ returns c =
     let sorted = c.as_slice.result.now in
     let moved : IsPermutation numbers sorted = search rules in
     let rises : IsSorted nat_cmp sorted = search rules in
-    record { none = distinct_before numbers sorted moved (c.in-None.ensures.none rises) }
+    record { none = distinct_before numbers sorted moved (c.in-None.ensures.none rises); some = tt }
