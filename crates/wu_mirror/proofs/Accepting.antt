@@ -29,7 +29,7 @@ use Rattle.wu_mirror.specs.declared.batches.ListChange.{ListChange}
 use Rattle.wu_mirror.specs.declared.batches.ListChange.TheVariants.{Same, Set, Removed}
 use Rattle.wu_mirror.specs.declared.batches.Owners.{Owners}
 use Rattle.wu_mirror.specs.declared.batches.RightsChange.{RightsChange}
-use Rattle.wu_mirror.specs.Acceptance.{AreAccepted, AreAcceptedTo, ClosedIsEmpty, HasRoom, IsOrdered, IsTextIn}
+use Rattle.wu_mirror.specs.Acceptance.{AreAccepted, AreAcceptedTo, ClosedIsEmpty, HasRoom, IsTextIn}
 use Rattle.wu_mirror.specs.Misfits.{Fits}
 use Rattle.wu_mirror.specs.Moments.{HasFate, IsKept, IsMade, IsTrueOf, LeadsTo, TellsAllNames, list_after, node_with}
 use Rattle.wu_mirror.specs.Moments.{perm_after}
@@ -38,7 +38,7 @@ use Rattle.wu_mirror.specs.Plans.{nobody, owners_given, placed_in, removed_in, t
 use Rattle.wu_mirror.proofs.Clearing.{clear_all}
 use Rattle.wu_mirror.proofs.Gone.{none_if}
 use Rattle.wu_mirror.proofs.InItems.{each_in, in_pairs}
-use Rattle.wu_mirror.proofs.OutItems.{each_out, out_pairs}
+use Rattle.wu_mirror.proofs.OutItems.{IsOrdered, each_out, out_pairs}
 use Rattle.wu_mirror.proofs.Middle.{clearing, placing}
 use Rattle.wu_mirror.proofs.Parts.{node_there}
 use Rattle.wu_mirror.proofs.Placing.{Placing, numbered_at, place_all}

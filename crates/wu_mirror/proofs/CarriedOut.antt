@@ -7,11 +7,12 @@ use Rattle.wu_tree.specs.declared.events.Event.{Event}
 use Rattle.wu_tree.specs.FileSystems.{FileSystem}
 use Rattle.wu_tree.specs.Steps.{next}
 use Rattle.wu_mirror.specs.declared.batches.Batch.{Batch}
-use Rattle.wu_mirror.specs.Acceptance.{AreAccepted, Always, HasRoom, IsCarriedOut, IsOrdered, IsTextIn, after_all}
+use Rattle.wu_mirror.specs.Acceptance.{AreAccepted, Always, HasRoom, IsCarriedOut, IsTextIn, NamesOnce, after_all}
 use Rattle.wu_mirror.specs.Misfits.{Fits}
 use Rattle.wu_mirror.specs.Moments.{AgreesOutside, AtEach, AtLast, FindsNoMore, FindsNoNewText, IsText, LeadsTo, TellsAllNames}
 use Rattle.wu_mirror.specs.Plans.{head_of, placed_in, removed_in, tail_of, taken_in}
 use Rattle.wu_mirror.proofs.Accepting.{each_accepted}
+use Rattle.wu_mirror.proofs.OutItems.{IsOrdered}
 use Rattle.wu_mirror.proofs.Whole.{leaves_what_it_tells, shows_no_more}
 
 -- where events are accepted, what holds as long as they are
@@ -34,9 +35,10 @@ in_parts : (a b c d e : List Event) → a ++ b ++ c ++ d ++ e ≡ (a ++ b) ++ ((
 in_parts a b c d e = ap (λ (x : List Event). x ++ e) (append_assoc (a ++ b) c d) ∙ append_assoc (a ++ b) (c ++ d) e
 
 pub carried_out : (law : IsDecidedByCases) (batch : Batch) (before after : FileSystem) → LeadsTo batch before after → TellsAllNames batch before after
-    → Fits batch → IsOrdered batch → HasRoom batch before after → (texts : List Event) → AllByRecursion (IsTextIn after) texts
+    → Fits batch → AllByRecursion NamesOnce batch.changes → HasRoom batch before after → (texts : List Event) → AllByRecursion (IsTextIn after) texts
     → IsCarriedOut batch texts before after
-carried_out law batch before after l w f o r texts are =
+carried_out law batch before after l w f once r texts are =
+    let o : IsOrdered batch = record { order = f.order; once = once } in
     let ok : AreAccepted before (head_of batch ++ texts ++ tail_of batch) = each_accepted batch before after l w f o r texts are in
     let given : AllByRecursion IsText texts = are_texts after texts are in
     let parts : AreAccepted before ((taken_in batch ++ removed_in batch) ++ ((placed_in batch ++ texts) ++ tail_of batch)) =

@@ -24,13 +24,13 @@ use Rattle.wu_mirror.specs.declared.batches.Change.{Change}
 use Rattle.wu_mirror.specs.declared.batches.Fate.{Fate}
 use Rattle.wu_mirror.specs.declared.batches.Fate.TheVariants.{Stays, Made, Goes}
 use Rattle.wu_mirror.specs.declared.batches.Place.{Place}
-use Rattle.wu_mirror.specs.Acceptance.{AreAcceptedTo, HadKind, HasRoom, IsOrdered}
+use Rattle.wu_mirror.specs.Acceptance.{AreAcceptedTo, HadKind, HasRoom}
 use Rattle.wu_mirror.specs.Moments.{GoesFrom, HasFate, IsName, IsTrueOf, LeadsTo}
 use Rattle.wu_mirror.proofs.Depths.{bounded, closed_depth, deeper, facts, not_above, reaches_there}
 use Rattle.wu_mirror.proofs.EventsAccepted.{number_is_name, rename_taken, rmdir_taken, unlink_taken}
 use Rattle.wu_mirror.proofs.Gone.{never, none_if}
 use Rattle.wu_mirror.proofs.Lookups.{link_removed, put_in, put_itself, put_keeps, same_some, still_in, taken_itself, taken_out}
-use Rattle.wu_mirror.proofs.OutItems.{AsideAt, IsOut, LeaveOut, PairOut, out_change}
+use Rattle.wu_mirror.proofs.OutItems.{IsOrdered, AsideAt, IsOut, LeaveOut, PairOut, out_change}
 use Rattle.wu_mirror.proofs.Pairs.{Pairwise}
 use Rattle.wu_mirror.proofs.Parts.{node_there, tree_kept}
 use Rattle.wu_mirror.proofs.ViewGrowth.{directory_there}

@@ -1,25 +1,30 @@
 -- What the checks of a batch find out: a batch in which nothing is wrong fits.
-use Rattle.std.proofs.Common.{◌≡◌, ◌≢◌, ℕ, ◌+◌, ◌<◌, ◌≤◌, List, [], ◌∷◌, map, length, get_or, refl, sym, ap, ◌∙◌, subst, Bool, true, false, cond}
+use Rattle.std.proofs.Common.{◌≡◌, ◌≢◌, ℕ, suc, ◌+◌, ◌-◌, ◌<◌, ◌≤◌, List, [], ◌∷◌, map, length, get_or, drop, drop-cons, refl, sym, ap, ◌∙◌, subst, Bool, true, false, cond}
 use Rattle.std.proofs.Common.{◌&&◌, ◌||◌, ◌==◌, not, eqb, nat_eq, nat_lt, arith, IsPermutation, IsSorted, nat_cmp, inl, inr}
 use Rattle.std.proofs.Common.{true≢false, zero-le, le_antisymm, ltb-false, Option, None, Some, is_some, Result, Ok, Err, IfOk, IfNone, IfSome, ◌⊎◌}
+use Rattle.std.specs.Ordering.{is_eq}
 use Rattle.std.specs.Cmp.{nat_eq_equiv}
-use Rattle.std.specs.List.{AllByRecursion, IsDistinct, list_all}
+use Rattle.std.specs.List.{AllByRecursion, IsDistinct, list_all, list_any}
 use Rattle.std.proofs.lemmas.Bool.{eqb-true, eqb-false, eq-eqb, ne_eqb, false≢true}
 use Rattle.std.proofs.lemmas.List.Sorted.{IsNonDecreasingBy-from_sort, IsPermutation-sym, sum_by-IsPermutation}
 use Rattle.std.proofs.lemmas.List.Sums.{sum_by_more, sum_by_more_le}
 use Rattle.std.proofs.lemmas.Map.Keys.{IsDistinct-IsPermutation, IsDistinct-from_apart, IsDistinct-head, IsDistinct-tail}
 use Rattle.wu_access.specs.declared.UserRec.{UserRec}
+use Rattle.wu_base.proofs.MapEntries.{number_itself}
+use Rattle.wu_tree.proofs.ParentPaths.{other_number}
 use Rattle.wu_tree.specs.declared.events.Kind.{Kind}
 use Rattle.wu_tree.specs.declared.events.Kind.TheVariants.{Directory}
-use Rattle.wu_tree.specs.FileSystems.{is_name}
+use Rattle.wu_tree.specs.FileSystems.{is_kind_file, is_name}
 use Rattle.wu_mirror.specs.declared.batches.TheConstants.{CLOSED}
 use Rattle.wu_mirror.specs.declared.batches.Batch.{Batch}
 use Rattle.wu_mirror.specs.declared.batches.Change.{Change}
 use Rattle.wu_mirror.specs.declared.batches.Place.{Place}
+use Rattle.wu_mirror.specs.declared.checks.Fault.{Fault}
 use Rattle.wu_mirror.specs.declared.checks.Fault.TheVariants.{Reserved, Root, ManyNames, Unnamed, Text, Name, Order}
 use Rattle.wu_mirror.specs.declared.checks.Misfit.{Misfit}
 use Rattle.wu_mirror.specs.Misfits.{Fits, IsPlace, IsSound}
-use Rattle.wu_mirror.specs.Faults.{at_fault, fault_of, fault_of_names, fault_of_root, first_fault, has_many_names, is_kept_directory, is_named, is_place}
+use Rattle.wu_mirror.specs.Acceptance.{AreInOrder, IsAbove, stands_at}
+use Rattle.wu_mirror.specs.Faults.{at_fault, fault_of, fault_of_names, fault_of_root, first_below, first_fault, has_many_names, is_below, is_kept_directory, is_named, is_place}
 use Rattle.wu_mirror.specs.Faults.{IsTwice, may_have_text}
 use Rattle.wu_mirror.specs.Moments.{AreApart, is_told}
 use Rattle.wu_mirror.specs.Plans.{is_empty}
@@ -166,11 +171,12 @@ each_sound (change ∷ changes) a = (sound_if change a.0, each_sound changes a.1
 
 pub fits_if : (batch : Batch) → AllByRecursion (λ change. fault_of change ≡ None) batch.changes
     → IsDistinct nat_eq (map (λ user. user.uid) batch.users) → (is_empty batch.users || is_told batch.changes 1) ≡ true
-    → AreApart batch.changes
+    → AreApart batch.changes → AreInOrder batch.changes
     → Fits batch
-fits_if batch all users root apart = record {
+fits_if batch all users root apart order = record {
   changes = each_sound batch.changes all;
   apart = apart;
+  order = order;
   root = root_if batch.users (is_told batch.changes 1) root;
   users = users;
 }
@@ -218,9 +224,91 @@ pub twice_found : (xs ys : List ℕ) → IsPermutation xs ys → (found : Option
 twice_found xs ys p None h = tt
 twice_found xs ys p (Some number) h = twice_before xs ys p number h
 
--- a fault of the order is one of the two that are told of several changes
-pub order_or : {E : Type 0} (P : Misfit → Type 0) (r : Result (Option Misfit) E) → IfOk r (λ found. IfSome found (λ misfit. misfit.fault ≡ Order))
-    → IfOk r (λ found. IfSome found (λ misfit. P misfit ⊎ (misfit.fault ≡ Order)))
-order_or P (Ok None) h = tt
-order_or P (Ok (Some misfit)) h = inr h
-order_or P (Err e) h = tt
+-- what is found of the order is told of several changes
+pub order_or : {E : Type 0} (P : Misfit → Type 0) (changes : List Change) (r : Result (Option Misfit) E) → IfOk r (λ found. found ≡ first_below changes)
+    → IfOk r (λ found. IfSome found (λ misfit. P misfit ⊎ (first_below changes ≡ Some misfit)))
+order_or P changes (Ok None) h = tt
+order_or P changes (Ok (Some misfit)) h = inr (sym h)
+order_or P changes (Err e) h = tt
+
+-- ---- the order
+none_any : {X : Type 0} (p : X → Bool) (xs : List X) → list_any p xs ≡ false → AllByRecursion (λ x. p x ≡ false) xs
+none_any p [] h = tt
+none_any p (x ∷ xs) h = let n = neither (p x) (list_any p xs) h in (n.0, none_any p xs n.1)
+
+above_if : (changes : List Change) (change : Change) → is_below (λ ino. is_told changes ino) change ≡ false → IsAbove changes change
+above_if changes change h k =
+    none_any (λ (place : Place). is_told changes place.parent) (stands_at change.fate change.going change.coming)
+    (subst (λ (x : Kind). (not (is_kind_file x) && list_any (λ (place : Place). is_told changes place.parent)
+    (stands_at change.fate change.going change.coming)) ≡ false) k h)
+
+pub order_if : (changes : List Change) → first_below changes ≡ None → AreInOrder changes
+order_if [] h = tt
+order_if (change ∷ changes) h =
+    let n = none_past (is_below (λ ino. is_told (change ∷ changes) ino) change) (record { number = change.ino; fault = Order }) (first_below changes) h in
+    (above_if (change ∷ changes) change n.0, order_if changes n.1)
+
+-- a step of the walk from the last change to the first
+pub one_before : (changes : List Change) (back : ℕ) (change : Change) → back < length changes
+    → change ≡ get_or changes (length changes - 1 - back) change
+    → drop (length changes - (back + 1)) changes ≡ change ∷ drop (length changes - back) changes
+one_before changes back change within e =
+    let place : ℕ = length changes - (back + 1) in
+    let here : length changes - 1 - back ≡ place = omega arith in
+    let next : length changes - back ≡ suc place = omega arith in
+    drop-cons changes place change (omega arith)
+    ∙ ap (λ (x : Change). x ∷ drop (suc place) changes) (sym (e ∙ ap (λ k. get_or changes k change) here))
+    ∙ ap (λ k. change ∷ drop k changes) (sym next)
+
+-- two tests that a number is there
+same_test : (a b : ℕ) (t : Bool) → cond (is_eq (nat_cmp a b)) true t ≡ ((a == b) || t)
+same_test a b t =
+    elim (a == b) as (λ v. (a == b) ≡ v → cond (is_eq (nat_cmp a b)) true t ≡ (v || t)) [
+      | true ↦ λ e. ap (λ x. cond x true t) (subst (λ y. is_eq (nat_cmp a y) ≡ true) (eqb-true a b e) (number_itself a))
+      | false ↦ λ e. ap (λ x. cond x true t) (other_number a b (eqb-false a b e))
+    ] refl
+
+any_same : (f g : ℕ → Bool) → ((q : ℕ) → f q ≡ g q) → (places : List Place)
+    → list_any (λ place. f place.parent) places ≡ list_any (λ place. g place.parent) places
+any_same f g e [] = refl
+any_same f g e (place ∷ places) =
+    ap (λ b. b || list_any (λ (p : Place). f p.parent) places) (e place.parent) ∙ ap (λ b. g place.parent || b) (any_same f g e places)
+
+misfit_is : (misfit : Misfit) (number : ℕ) (fault : Fault) → misfit.number ≡ number → misfit.fault ≡ fault
+    → misfit ≡ record { number = number; fault = fault }
+misfit_is misfit number fault e g =
+    ap (λ (n : ℕ). let m : Misfit = record { number = n; fault = misfit.fault } in m) e
+    ∙ ap (λ (f : Fault). let m : Misfit = record { number = number; fault = f } in m) g
+
+pub step_back : (changes : List Change) (back : ℕ) (change : Change) → back < length changes
+    → change ≡ get_or changes (length changes - 1 - back) change
+    → (old new : ℕ → Bool) (found next : Option Misfit) (misfit : Misfit) (is_out : Bool)
+    → ((q : ℕ) → new q ≡ cond (is_eq (nat_cmp change.ino q)) true (old q))
+    → ((q : ℕ) → old q ≡ is_told (drop (length changes - back) changes) q)
+    → found ≡ first_below (drop (length changes - back) changes)
+    → is_out ≡ is_below new change → misfit.number ≡ change.ino → misfit.fault ≡ Order
+    → next ≡ cond is_out (Some misfit) found
+    → ((q : ℕ) → new q ≡ is_told (drop (length changes - (back + 1)) changes) q)
+    × (next ≡ first_below (drop (length changes - (back + 1)) changes))
+step_back changes back change within e old new found next misfit is_out n k f b number fault last =
+    let rest : List Change = drop (length changes - back) changes in
+    let whole : drop (length changes - (back + 1)) changes ≡ change ∷ rest = one_before changes back change within e in
+    let known : (q : ℕ) → new q ≡ is_told (change ∷ rest) q =
+    (λ (q : ℕ). n q ∙ ap (λ t. cond (is_eq (nat_cmp change.ino q)) true t) (k q) ∙ same_test change.ino q (is_told rest q)) in
+    let out : is_out ≡ is_below (λ ino. is_told (change ∷ rest) ino) change =
+    b ∙ ap (λ t. not (is_kind_file change.kind) && t)
+    (any_same new (λ ino. is_told (change ∷ rest) ino) known (stands_at change.fate change.going change.coming)) in (
+      (λ q. known q ∙ ap (λ (l : List Change). is_told l q) (sym whole)),
+      last
+          ∙ ap (λ t. cond t (Some misfit) found) out
+          ∙ ap (λ (m : Misfit). cond (is_below (λ ino. is_told (change ∷ rest) ino) change) (Some m) found) (misfit_is misfit change.ino Order number fault)
+          ∙ ap (λ (o : Option Misfit). cond (is_below (λ ino. is_told (change ∷ rest) ino) change)
+          (Some (record { number = change.ino; fault = Order })) o) f
+          ∙ ap first_below (sym whole),
+    )
+
+pub order_unless : {E : Type 0} (changes : List Change) (r : Result (Option Misfit) E) → IfOk r (λ found. found ≡ first_below changes)
+    → IfOk r (λ found. IfNone found (AreInOrder changes))
+order_unless changes (Ok None) h = order_if changes (sym h)
+order_unless changes (Ok (Some misfit)) h = tt
+order_unless changes (Err e) h = tt

@@ -15,13 +15,14 @@ use Rattle.wu_mirror.specs.declared.batches.Fate.{Fate}
 use Rattle.wu_mirror.specs.declared.batches.Fate.TheVariants.{Stays, Made, Goes}
 use Rattle.wu_mirror.specs.declared.batches.Place.{Place}
 use Rattle.wu_mirror.specs.declared.batches.RightsChange.{RightsChange}
-use Rattle.wu_mirror.specs.Acceptance.{IsElsewhere, IsOrdered, NamesOnce, stands_at}
+use Rattle.wu_mirror.specs.Acceptance.{IsElsewhere, NamesOnce, stands_at}
 use Rattle.wu_mirror.specs.Faults.{is_named}
 use Rattle.wu_mirror.specs.Misfits.{Fits, IsSound}
 use Rattle.wu_mirror.specs.Moments.{HasFate, IsName, IsTrueOf, LeadsTo, node_with}
 use Rattle.wu_mirror.specs.Plans.{first_perm, groups_change, is_empty, is_shut}
 use Rattle.wu_mirror.proofs.Clearing.{kind_by}
 use Rattle.wu_mirror.proofs.Depths.{facts}
+use Rattle.wu_mirror.proofs.OutItems.{IsOrdered}
 use Rattle.wu_mirror.proofs.Pairs.{Pairwise, pair_append, pair_flat}
 use Rattle.wu_mirror.proofs.TakingRights.{apart_same}
 use Rattle.wu_mirror.proofs.Ways.{Item, Precedes, Way, all_precede, come_way, directories_in, directory_ins, file_ins, files_in, first_then, ins, item}

@@ -24,7 +24,7 @@ use Rattle.wu_mirror.specs.declared.batches.Fate.{Fate}
 use Rattle.wu_mirror.specs.declared.batches.Fate.TheVariants.{Stays, Made, Goes}
 use Rattle.wu_mirror.specs.declared.batches.Place.{Place}
 use Rattle.wu_mirror.specs.declared.batches.RightsChange.{RightsChange}
-use Rattle.wu_mirror.specs.Acceptance.{HasOther, HasRoom, IsOrdered}
+use Rattle.wu_mirror.specs.Acceptance.{HasOther, HasRoom}
 use Rattle.wu_mirror.specs.Misfits.{Fits}
 use Rattle.wu_mirror.specs.Moments.{GoesFrom, HasFate, IsKept, IsMade, IsName, IsTrueOf, LeadsTo, TellsAllNames, is_told, node_with}
 use Rattle.wu_mirror.specs.Moments.{perm_after}
@@ -33,7 +33,7 @@ use Rattle.wu_mirror.proofs.Depths.{facts}
 use Rattle.wu_mirror.proofs.Gone.{never, none_if}
 use Rattle.wu_mirror.proofs.InItems.{IsIn, IsNew, brought_at, each_in, made_at, no_other}
 use Rattle.wu_mirror.proofs.Lookups.{same_some}
-use Rattle.wu_mirror.proofs.OutItems.{AsideAt, IsOut, aside_stays, directory_aside, each_out, file_aside, out_at, out_change}
+use Rattle.wu_mirror.proofs.OutItems.{IsOrdered, AsideAt, IsOut, aside_stays, directory_aside, each_out, file_aside, out_at, out_change}
 use Rattle.wu_mirror.proofs.Parts.{node_there}
 use Rattle.wu_mirror.proofs.Placing.{Placing}
 use Rattle.wu_mirror.proofs.RightsAccepted.{IsAlike, kind_in}

@@ -3,6 +3,7 @@ use Rattle.std.proofs.Common.{◌≡◌, ◌≢◌, List, [], ◌∷◌, ◌++�
 use Rattle.std.specs.Prelude.{◌⊎◌, Option, reverse}
 use Rattle.wu_access.specs.declared.acls.Acl.{Acl}
 use Rattle.wu_access.specs.declared.Perm.{Perm}
+use Rattle.std.specs.List.{AllByRecursion}
 use Rattle.wu_tree.specs.declared.events.Kind.{Kind}
 use Rattle.wu_tree.specs.declared.events.Kind.TheVariants.{Directory, File}
 use Rattle.wu_tree.specs.FileSystems.{FileSystem}
@@ -13,12 +14,17 @@ use Rattle.wu_mirror.specs.declared.batches.Fate.{Fate}
 use Rattle.wu_mirror.specs.declared.batches.Fate.TheVariants.{Stays, Made, Goes}
 use Rattle.wu_mirror.specs.declared.batches.Place.{Place}
 use Rattle.wu_mirror.specs.declared.batches.RightsChange.{RightsChange}
-use Rattle.wu_mirror.specs.Acceptance.{IsElsewhere, IsOrdered, NamesOnce, stands_at}
+use Rattle.wu_mirror.specs.Acceptance.{AreInOrder, IsElsewhere, NamesOnce, stands_at}
 use Rattle.wu_mirror.specs.Moments.{IsTrueOf, LeadsTo}
 use Rattle.wu_mirror.proofs.Pairs.{Has-reverse, Pairwise, pair_append, pair_flat, pair_reverse, reverse_has}
 use Rattle.wu_mirror.proofs.TakingRights.{apart_same}
 use Rattle.wu_mirror.proofs.Ways.{Item, Precedes, Way, all_precede, file_outs, files_out, first_then, gone_way, item, leave_outs, leaves_out}
 use Rattle.wu_mirror.proofs.Ways.{move_outs, moves_out, none_in_itself, of_first, outs, pair_first, pair_short, Unlinked, Removed, SetAside}
+
+-- a batch whose directories stand in order, and whose names go and come once
+pub record IsOrdered (batch : Batch) : Type 0 where
+  pub order : AreInOrder batch.changes
+  pub once : AllByRecursion NamesOnce batch.changes
 
 -- of two names that go, the one before the other
 pub record PairOut (i j : Item) : Type 0 where

@@ -27,7 +27,7 @@ use Rattle.wu_mirror.specs.declared.batches.Change.{Change}
 use Rattle.wu_mirror.specs.declared.batches.Fate.{Fate}
 use Rattle.wu_mirror.specs.declared.batches.Fate.TheVariants.{Made}
 use Rattle.wu_mirror.specs.declared.batches.Place.{Place}
-use Rattle.wu_mirror.specs.Acceptance.{AreAcceptedTo, HasRoom, IsOrdered}
+use Rattle.wu_mirror.specs.Acceptance.{AreAcceptedTo, HasRoom}
 use Rattle.wu_mirror.specs.Misfits.{Fits}
 use Rattle.wu_mirror.specs.Moments.{HasFate, IsMade, IsName, IsTrueOf, LeadsTo, node_with}
 use Rattle.wu_mirror.specs.Plans.{first_perm}
@@ -37,6 +37,7 @@ use Rattle.wu_mirror.proofs.EventsAccepted.{create_taken, link_taken, mkdir_take
 use Rattle.wu_mirror.proofs.Gone.{never, none_if}
 use Rattle.wu_mirror.proofs.InItems.{IsIn, IsNew, PairIn, brought_new, kind_after, linked_new, shut}
 use Rattle.wu_mirror.proofs.Lookups.{put_in, put_keeps, same_some, still_in, taken_itself, taken_out}
+use Rattle.wu_mirror.proofs.OutItems.{IsOrdered}
 use Rattle.wu_mirror.proofs.Pairs.{Pairwise}
 use Rattle.wu_mirror.proofs.Parts.{node_there, tree_kept}
 use Rattle.wu_mirror.proofs.ViewGrowth.{directory_there}

@@ -49,10 +49,6 @@ AreInOrder (change ∷ changes) = IsAbove (change ∷ changes) change × AreInOr
 abbrev pub NamesOnce : Change → Type 0
 NamesOnce change = AreOnce change.going × AreOnce change.coming
 
-pub record IsOrdered (batch : Batch) : Type 0 where
-  pub order : AreInOrder batch.changes
-  pub once : AllByRecursion NamesOnce batch.changes
-
 -- ---- what only the file systems can tell
 
 -- a file that is told to have another name has one before and after

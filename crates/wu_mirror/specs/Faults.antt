@@ -1,10 +1,11 @@
 -- What is wrong in one change of a batch by itself, and what is told of a batch that can't be planned.
 use Rattle.std.specs.Prelude.{◌≡◌, ◌⊎◌, ◌≤◌, ℕ, length, Bool, true, false, ◌&&◌, ◌||◌, not, cond, ◌==◌, nat_lt, Option, None, Some, List, [], ◌∷◌}
 use Rattle.std.specs.Prelude.{map, count_by}
-use Rattle.std.specs.List.{list_all}
+use Rattle.std.specs.List.{list_all, list_any}
 use Rattle.wu_tree.specs.declared.events.Kind.{Kind}
 use Rattle.wu_tree.specs.declared.events.Kind.TheVariants.{Directory, File}
-use Rattle.wu_tree.specs.FileSystems.{is_name}
+use Rattle.wu_tree.specs.FileSystems.{is_kind_file, is_name}
+use Rattle.wu_mirror.specs.Acceptance.{stands_at}
 use Rattle.wu_mirror.specs.Moments.{is_told}
 use Rattle.wu_mirror.specs.Plans.{is_empty}
 use Rattle.wu_mirror.specs.declared.batches.TheConstants.{CLOSED}
@@ -81,16 +82,27 @@ abbrev pub first_fault : List Change → Option Misfit
 first_fault [] = None
 first_fault (change ∷ changes) = at_fault change.ino (fault_of change) (first_fault changes)
 
+-- a directory stands in one of these nodes
+abbrev pub is_below : (ℕ → Bool) → Change → Bool
+is_below among change =
+    not (is_kind_file change.kind) && list_any (λ place. among place.parent) (stands_at change.fate change.going change.coming)
+
+-- the first directory that stands in one that stands behind it, or in itself
+abbrev pub first_below : List Change → Option Misfit
+first_below [] = None
+first_below (change ∷ changes) =
+    cond (is_below (λ ino. is_told (change ∷ changes) ino) change) (Some (record { number = change.ino; fault = Order })) (first_below changes)
+
 -- the number is there twice, or more often
 abbrev pub IsTwice : ℕ → List ℕ → Type 0
 IsTwice number numbers = 2 ≤ count_by (λ other. other == number) numbers
 
 -- What is told of a batch: the first fault of one change by itself; or a user that is there twice; or that the root is missing where
--- groups change; or a number that is there twice; or something of several changes.
+-- groups change; or a number that is there twice; or the first directory that is out of order; or a name that is there twice.
 abbrev pub IsMisfitOf : Batch → Misfit → Type 0
 IsMisfitOf batch found =
     (first_fault batch.changes ≡ Some found)
     ⊎ (((found.fault ≡ UserTwice) × IsTwice found.number (map (λ user. user.uid) batch.users))
     ⊎ (((found.fault ≡ OpenRoot) × (found.number ≡ 1) × ((is_empty batch.users || is_told batch.changes 1) ≡ false))
     ⊎ (((found.fault ≡ NumberTwice) × IsTwice found.number (map (λ change. change.ino) batch.changes))
-    ⊎ ((found.fault ≡ Order) ⊎ (found.fault ≡ NameTwice)))))
+    ⊎ ((first_below batch.changes ≡ Some found) ⊎ (found.fault ≡ NameTwice)))))

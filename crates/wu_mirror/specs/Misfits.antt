@@ -3,6 +3,7 @@ use Rattle.std.specs.Prelude.{◌≡◌, ◌≢◌, ◌⊎◌, ◌≤◌, length
 use Rattle.std.specs.List.{AllByRecursion, IsDistinct}
 use Rattle.wu_tree.specs.declared.events.Kind.TheVariants.{Directory}
 use Rattle.wu_tree.specs.FileSystems.{is_name}
+use Rattle.wu_mirror.specs.Acceptance.{AreInOrder}
 use Rattle.wu_mirror.specs.Faults.{is_named}
 use Rattle.wu_mirror.specs.Moments.{AreApart, is_told}
 use Rattle.wu_mirror.specs.declared.batches.TheConstants.{CLOSED}
@@ -25,9 +26,10 @@ pub record IsSound (change : Change) : Type 0 where
   pub named : change.ino ≢ 1 → is_named change.kind change.fate (length change.going) (length change.coming) ≡ true
 
 -- What `LeadsTo` asks of the batch alone: each node is there once, and where groups change the root is among the nodes. And each
--- user is there once.
+-- directory stands behind that in which it stands, and each user is there once.
 pub record Fits (batch : Batch) : Type 0 where
   pub changes : AllByRecursion IsSound batch.changes
   pub apart : AreApart batch.changes
+  pub order : AreInOrder batch.changes
   pub root : is_told batch.changes 1 ≡ true ⊎ (batch.users ≡ [])
   pub users : IsDistinct nat_eq (map (λ user. user.uid) batch.users)

@@ -1,16 +1,19 @@
 //! What a batch has to keep so that it can be planned.
-ghost use Rattle.std.specs.Prelude.{◌≡◌, ◌⊎◌, ◌||◌, IfNone, IfOk, IfSome, IsSorted, map, nat_eq};
+ghost use Rattle.std.specs.Prelude.{◌≡◌, ◌⊎◌, ◌||◌, IfNone, IfOk, IfSome, IsSorted, None, Some, cond, map, nat_eq};
 ghost use Rattle.std.specs.Ordering.{nat_cmp};
-ghost use Rattle.std.specs.List.{IsDistinct, list_all};
+ghost use Rattle.std.specs.List.{IsDistinct, list_all, list_any};
 ghost use Rattle.wu_tree.specs.FileSystems.{are_name_bytes, is_dots as dots_test, is_name as name_test, is_name_length};
+ghost use Rattle.std.specs.BTreeSet.{contains};
+ghost use Rattle.wu_mirror.specs.Acceptance.{AreInOrder, stands_at};
 ghost use Rattle.wu_mirror.specs.Moments.{AreApart, is_told};
 ghost use Rattle.wu_mirror.specs.Plans.{is_empty};
-ghost use Rattle.wu_mirror.specs.Faults.{fault_of, fault_of_names as names_fault, fault_of_root as root_fault, first_fault, is_named, is_place, may_have_text, IsMisfitOf, IsTwice};
-ghost use Rattle.wu_mirror.specs.declared.checks.Fault.TheVariants.{NameTwice, NumberTwice, Order, UserTwice};
+ghost use Rattle.wu_mirror.specs.Faults.{fault_of, fault_of_names as names_fault, fault_of_root as root_fault, first_below, first_fault, is_below as below_test, is_named, is_place, may_have_text, IsMisfitOf, IsTwice};
+ghost use Rattle.wu_mirror.specs.declared.checks.Fault.TheVariants.{NameTwice, NumberTwice, UserTwice};
 ghost use Rattle.wu_mirror.specs.Misfits.{Fits};
 
 use crate::batches::{Batch, CLOSED, Change, Fate, Place};
 use std::alloc::Global;
+use std::collections::BTreeSet;
 use thiserror::Error;
 use wu_access::UserRec;
 use wu_base::{Ino, NAME_MAX, NoMemory, ROOT, Uid};
@@ -277,14 +280,12 @@ fn doubled(numbers: &[u32]) -> Option<u32>
     None
 }
 
-/// A change's number, and its place among the changes.
-type Spot = (Ino, usize);
-
 /// The number that is there twice, or the directory that stands before that in which it stands.
 fn number_misfit(alloc: Global, changes: &[Change]) -> Result<Option<Misfit>, NoMemory>
     ensures none { IfOk result (λ found. IfNone found (AreApart changes.now)) }
     ensures some { IfOk result (λ found. IfSome found (λ misfit.
-        ((misfit.fault ≡ NumberTwice) × IsTwice misfit.number (map (λ change. change.ino) changes.now)) ⊎ (misfit.fault ≡ Order))) }
+        ((misfit.fault ≡ NumberTwice) × IsTwice misfit.number (map (λ change. change.ino) changes.now)) ⊎ (first_below changes.now ≡ Some misfit))) }
+    ensures order { IfOk result (λ found. IfNone found (AreInOrder changes.now)) }
 {
     if let Some(number) = doubled_number(alloc, changes)? {
         return Ok(Some(Misfit {
@@ -315,52 +316,53 @@ fn numbers_of(alloc: Global, changes: &[Change]) -> Result<Vec<Ino>, NoMemory>
     Ok(numbers)
 }
 
-/// The directory that stands before that in which it stands.
+/// The first directory that stands before that in which it stands, or below itself. The changes are walked from
+/// the last to the first.
 fn order_misfit(alloc: Global, changes: &[Change]) -> Result<Option<Misfit>, NoMemory>
-    ensures { IfOk result (λ found. IfSome found (λ misfit. misfit.fault ≡ Order)) }
+    ensures { IfOk result (λ found. found ≡ first_below changes.now) }
 {
-    let spots = spots_of(alloc, changes)?;
-    for (place, change) in changes.iter().enumerate() {
-        if !is_in_order(spots.as_slice(), place, change) {
-            return Ok(Some(fault_at(change, Fault::Order)));
-        }
+    let mut behind: BTreeSet<Ino> = BTreeSet::new(alloc);
+    let mut found = None;
+    for back in 0..changes.len() {
+        let change = &changes[changes.len() - 1 - back];
+        behind.insert(change.ino)?;
+        let is_out = is_below(&behind, change);
+        found = first_of(is_out, fault_at(change, Fault::Order), found);
     }
-    Ok(None)
+    Ok(found)
 }
 
-/// The numbers of the changes with their places, by number.
-fn spots_of(alloc: Global, changes: &[Change]) -> Result<Vec<Spot>, NoMemory> {
-    let mut spots: Vec<Spot> = Vec::new(alloc);
-    for (place, change) in changes.iter().enumerate() {
-        spots.push((change.ino, place))?;
-    }
-    spots.sort()?;
-    Ok(spots)
+fn first_of(is_first: bool, first: Misfit, other: Option<Misfit>) -> Option<Misfit>
+    ensures { result ≡ cond is_first (Some first) other }
+{
+    if is_first { Some(first) } else { other }
 }
 
-/// Whether the change at that place is no directory, or stands behind that of the directory in which it comes to
-/// stand, or stood where it goes, if that one is among the changes.
-fn is_in_order(spots: &[Spot], place: usize, change: &Change) -> bool {
-    let names = match change.fate {
+/// Whether the change is of a directory that comes to stand, or stood where it goes, in one of these nodes.
+fn is_below(nodes: &BTreeSet<Ino>, change: &Change) -> bool
+    ensures { result ≡ below_test (λ ino. contains nat_cmp nodes.now ino) change.now }
+{
+    match change.kind {
+        Kind::Directory => stand_in(nodes, places_of(change)),
+        Kind::File => false,
+    }
+}
+
+/// The places at which the node of the change stands: those that go where it goes, and else those that come.
+fn places_of(change: &Change) -> &[Place]
+    ensures { result.now ≡ stands_at change.now.fate change.now.going change.now.coming }
+{
+    match &change.fate {
         Fate::Goes => change.going.as_slice(),
         Fate::Stays { .. } | Fate::Made { .. } => change.coming.as_slice(),
-    };
-    match names {
-        [name, ..] if change.kind == Kind::Directory => match place_of(spots, name.parent) {
-            Some(above) => above < place,
-            None => true,
-        },
-        _ => true,
     }
 }
 
-/// The place of the change of that number.
-fn place_of(spots: &[Spot], ino: Ino) -> Option<usize> {
-    let at = spots.partition_point(|spot| spot.0 < ino);
-    match spots.get(at) {
-        Some((number, place)) if *number == ino => Some(*place),
-        _ => None,
-    }
+/// Whether one of the places is in one of these nodes.
+fn stand_in(nodes: &BTreeSet<Ino>, places: &[Place]) -> bool
+    ensures { result ≡ list_any (λ place. contains nat_cmp nodes.now place.parent) places.now }
+{
+    places.iter().any(|place| nodes.contains(&place.parent))
 }
 
 /// A name in a directory, and the node that it names.

@@ -7,7 +7,7 @@ ghost use Rattle.wu_tree.specs.FileSystems.{FileSystem, groups_of};
 ghost use Rattle.wu_tree.specs.Rules.{IsTree};
 ghost use Rattle.wu_view.specs.Views.{may, user_with};
 ghost use Rattle.wu_mirror.specs.declared.batches.Batch.{Batch};
-ghost use Rattle.wu_mirror.specs.Acceptance.{AreAccepted, HasRoom, IsCarriedOut, IsOrdered, IsTextIn};
+ghost use Rattle.wu_mirror.specs.Acceptance.{AreAccepted, HasRoom, IsCarriedOut, IsTextIn, NamesOnce};
 ghost use Rattle.wu_mirror.specs.Misfits.{Fits};
 ghost use Rattle.wu_mirror.specs.Moments.{AgreesOutside, AtLast, IsText, LeadsTo, ShowsNoMore, TellsAllNames};
 ghost use Rattle.wu_mirror.specs.Plans.{head_of, tail_of};
@@ -60,24 +60,24 @@ pub fn a_batch_leaves_what_it_tells()
     check_is_decided_by_cases();
 }
 
-/// Each event of a batch is accepted, whatever else the file system holds, and the mirror's own directory is empty
-/// after the last: of a batch that fits and tells of all names, whose names go and come once and whose directories
-/// stand in order, where the mirror's own directory is in the root and empty and no directory lies as deep as one may.
+/// Each event of a batch is accepted, whatever else the file system holds, and the mirror's own directory is
+/// empty after the last: of a batch that fits and tells of all names, and whose names go and come once, where
+/// the mirror's own directory is in the root and empty and no directory lies as deep as one may.
 pub fn each_event_is_accepted()
     ensures { (batch : Batch) (texts : List Event) (before after : FileSystem)
-        → LeadsTo batch before after → TellsAllNames batch before after → Fits batch → IsOrdered batch
-        → HasRoom batch before after → AllByRecursion (IsTextIn after) texts
+        → LeadsTo batch before after → TellsAllNames batch before after → Fits batch
+        → AllByRecursion NamesOnce batch.changes → HasRoom batch before after → AllByRecursion (IsTextIn after) texts
         → AreAccepted before (head_of batch ++ texts ++ tail_of batch) }
 {
     check_is_decided_by_cases();
 }
 
-/// The three laws of such a batch in one: each event is accepted, at no moment anybody but user 0 finds more than
-/// before it or after it, and after the last event there is what it leads to.
+/// The three laws of such a batch in one: each event is accepted, at no moment anybody but user 0 finds more
+/// than before it or after it, and after the last event there is what it leads to.
 pub fn a_batch_is_carried_out()
     ensures { (batch : Batch) (texts : List Event) (before after : FileSystem)
-        → LeadsTo batch before after → TellsAllNames batch before after → Fits batch → IsOrdered batch
-        → HasRoom batch before after → AllByRecursion (IsTextIn after) texts
+        → LeadsTo batch before after → TellsAllNames batch before after → Fits batch
+        → AllByRecursion NamesOnce batch.changes → HasRoom batch before after → AllByRecursion (IsTextIn after) texts
         → IsCarriedOut batch texts before after }
 {
     check_is_decided_by_cases();
