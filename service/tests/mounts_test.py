@@ -16,7 +16,7 @@ from unittest import mock
 from at_once_test import BESIDE, mount
 from harness import Score, needs_program, needs_root, options
 from service_test import as_user, wait_for
-from stage import ANN, BOB, LATER, Stage, done, goes, on_stage
+from stage import ANN, BOB, LATER, Stage, alone, done, goes, make_home, on_stage
 
 from wumpus.live.directories import Beside, Directories, System  # isort: skip
 from wumpus.live.mounting import Mounting, node_at  # isort: skip
@@ -174,6 +174,34 @@ def on_it(stage: Stage, score: Score) -> None:
     is_gone(stage, score, place / "open", "what was on it stays")
 
 
+def bound(stage: Stage, score: Score) -> None:
+    """A part of a file system that is mounted in itself, as systemd does with `/home` for a unit."""
+    home = make_home(stage.tree)
+    bind = 0x1000
+    for place in (home, home / "folder27"):
+        _libc.mount(os.fsencode(place), os.fsencode(place), None, bind, None)
+    try:
+        stage.begin(every="2")
+        score.check(stage.rests(), "no turn")
+        files = [home / f"folder{number}" / "inner" / "secret" for number in (27, 28, 29)]
+        due = {os.fsencode(file) for file in files}
+        before = stage.walked()
+        for _ in range(3):
+            wait_for(lambda: stage.walked() > before, LATER)
+            before = stage.walked()
+            time.sleep(0.5)
+            score.check(due <= stage.shown(BOB), "what is below it isn't told of")
+        score.check(stage.told()["live"]["narrowed"] == 0, f"{stage.told()['live']}")
+        for file in files[:2]:
+            file.chmod(0o600)
+            is_gone(stage, score, file, "what is below it stays")
+        score.check(stage.sees(BOB, files[2]), "another file is gone")
+    finally:
+        stage.finish()
+        for place in (home / "folder27", home):
+            _libc.umount2(os.fsencode(place), DETACH)
+
+
 def of_a_user(stage: Stage, score: Score) -> None:
     """A file system that never answers: it shuts what it covers, and no walk comes for it."""
     place = stage.tree / "ann" / "folder24"
@@ -239,6 +267,9 @@ def main() -> int:
         if given.only in (None, part.__name__):
             print(f"mounts: {part.__name__}", flush=True)
             on_stage(given.program, score, part)
+    if given.only in (None, "bound"):
+        print("mounts: bound", flush=True)
+        alone(given.program, score, bound)
     return score.end()
 
 

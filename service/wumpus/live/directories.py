@@ -4,6 +4,7 @@ A directory is taken in here before it is looked at, and the kernel changes firs
 an event of one that isn't here yet tells of a change that the look sees.
 """
 
+import errno
 import os
 import threading
 from dataclasses import dataclass, field
@@ -300,7 +301,12 @@ class _Taking:
     def _open(self, device: int, above: int, name: bytes, number: int) -> int:
         """Opens one as a place. Raises `OSError`."""
         if device_of(self.tree.nodes[number].identity) == device:
-            return open_here(above, name)
+            try:
+                return open_here(above, name)
+            except OSError as error:
+                # A part of a file system may be mounted in itself, as systemd does for a unit.
+                if error.errno != errno.EXDEV:
+                    raise
         descriptor = os.open(name, PLACE, dir_fd=above)
         try:
             self.directories.check_mount(descriptor)

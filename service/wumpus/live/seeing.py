@@ -100,8 +100,8 @@ class Seeing:
                 place = open_here(descriptor, name)
             finally:
                 os.close(descriptor)
-        except OSError:
-            return False
+        except OSError as error:
+            return error.errno == errno.EXDEV and self._is_mounted(node)
         try:
             return identity_of(os.fstat(place)) == node.identity
         finally:
@@ -137,8 +137,8 @@ class Seeing:
         try:
             descriptor = open_here(above, name)
         except OSError as error:
-            is_mounted = error.errno == errno.EXDEV and self._is_mount(node, directory)
-            return [] if is_mounted else [(node.number, NOBODY)]
+            is_mount = error.errno == errno.EXDEV and node.is_directory
+            return [] if is_mount and self._is_mounted(node) else [(node.number, NOBODY)]
         finally:
             os.close(above)
         try:
