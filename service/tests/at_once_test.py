@@ -17,6 +17,7 @@ from collections.abc import Callable
 from contextlib import suppress
 from functools import partial
 from pathlib import Path
+from unittest import mock
 
 from harness import Score, needs_program, needs_root, options
 from kernel import User, become
@@ -25,6 +26,8 @@ from stage import (  # fmt: skip
     ACCESS, ANN, BOB, EVE, NONE, SOON, Stage, alone, done, goes, make_home, on_stage
 )
 
+from wumpus.live import calls, command, narrowing  # isort: skip
+from wumpus.live.narrowing import Narrowing  # isort: skip
 from wumpus.shared.program import die_with_parent  # isort: skip
 
 BESIDE = 2.0  # seconds, where another account has the kernel tell of as much as it can
@@ -284,6 +287,31 @@ def turns_alone(stage: Stage, score: Score, words: tuple[str, ...], why: str) ->
         stage.finish()
 
 
+def without_call(stage: Stage, score: Score) -> None:
+    """Where a name can't be opened so that no server has to answer, there are turns alone."""
+    watch = mock.Mock()
+    beside = Narrowing(mock.Mock(), mock.Mock(), mock.Mock(watch=stage.watch), int)
+    with (
+        mock.patch.object(narrowing, "Watcher", lambda _: watch),
+        mock.patch.object(calls, "open_here", mock.Mock(side_effect=OSError(38, "not here"))),
+    ):
+        beside._begin_reader()
+    told = beside.why or ""
+    score.check("not here" in told and beside.reader is None, f"what is told: {told}")
+    score.check(not watch.group.called, "a group is made")
+    calls.check_open_here()
+    with (
+        mock.patch.object(calls, "new_group", mock.Mock(side_effect=OSError(1, "refused"))),
+        mock.patch.object(command, "Server") as server,
+    ):
+        command.run(command.parser().parse_args(["--socket", str(stage.watch)]))
+        score.check(server.called, "wumpus-watch ends where the kernel refuses")
+        with suppress(OSError):
+            command.run(command.parser().parse_args(["--check"]))
+            score.check(False, "and says that it doesn't")
+    stage.log.close()
+
+
 def helper(stage: Stage, score: Score) -> None:
     """It answers its owner, and nobody and nothing else."""
     stage.help()
@@ -330,6 +358,7 @@ def main() -> int:
     score, program = Score("at_once"), given.program
     parts: dict[str, Callable[[], None]] = {
         "helper": lambda: alone(program, score, helper),
+        "call": lambda: alone(program, score, without_call),
         "ways": lambda: on_stage(program, score, ways),
         "flood": lambda: on_stage(program, score, flood),
         "shared": lambda: alone(program, score, shared_alone),

@@ -92,6 +92,15 @@ def open_handle(beside: int, handle: bytes) -> int:
     return _checked(_libc.open_by_handle_at(beside, handle, flags))
 
 
+def check_open_here() -> None:
+    """Raises `OSError` where `open_here` can't be had, as behind some filters of system calls."""
+    top = os.open(b"/", os.O_PATH | os.O_CLOEXEC)
+    try:
+        os.close(open_here(top, b"."))
+    finally:
+        os.close(top)
+
+
 def open_here(directory: int, name: bytes) -> int:
     """Opens a name in a directory as a place, following no link. Raises `OSError`.
 

@@ -59,19 +59,28 @@ def listener(given: argparse.Namespace) -> tuple[socket.socket, float | None]:
     return made, None
 
 
-def run(given: argparse.Namespace) -> None:
-    """Does what the options say. Raises what `main` tells."""
+def _try_kernel() -> None:
+    """Marks the file system of `/` in a group of its own. Raises `OSError`."""
     group = calls.new_group()
     try:
         here = os.open("/", os.O_RDONLY | os.O_DIRECTORY)
-        calls.mark_file_system(group, here)
-        os.close(here)
+        try:
+            calls.mark_file_system(group, here)
+        finally:
+            os.close(here)
+    finally:
+        os.close(group)
+
+
+def run(given: argparse.Namespace) -> None:
+    """Does what the options say. Raises what `main` tells."""
+    try:
+        _try_kernel()
     except OSError as error:
         if given.check:
             raise
-        tell(f"the file system of /: {error.strerror}")
-    finally:
-        os.close(group)
+        # Who asks is answered so, too. If it ended, systemd would begin it again and again.
+        tell(f"the kernel refuses: {error.strerror}")
     if given.check:
         print("the kernel can")
         return

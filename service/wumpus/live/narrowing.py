@@ -198,6 +198,7 @@ class Narrowing:
         """Asks for a group; where none can be had the turns are all there is."""
         watcher = Watcher(self.settings.watch)
         try:
+            calls.check_open_here()
             group = watcher.group()
         except (NoWatch, OSError) as error:
             self.why = f"the kernel doesn't tell of changes: {error}"
