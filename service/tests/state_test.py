@@ -15,6 +15,7 @@ from wumpus.mirror.state import (  # isort: skip
     BadState,
     Files,
     State,
+    apply,
     read_state,
     spell_state,
 )
@@ -82,10 +83,42 @@ def written_and_read(folder: Path, size: int, score: Score) -> None:
     score.check(found is not None and found[1] == [later], f"{size} names: the later batch")
 
 
-def older(folder: Path, score: Score) -> None:
-    """States of the first format, which had each directory in one line, and of the second one.
+def names(folder: Path, score: Score) -> None:
+    """Later batches with names that come, go and lead elsewhere, and nodes that are gone."""
+    state = State("1-a", tree_of(3), {}, FIRST + 10, True)
+    files = Files(folder)
+    files.prepare(state)
+    files.commit()
+    new, other = node(FIRST + 8, True), node(FIRST + 9, False)
+    changes = [(ROOT, b"new\xff", new.number), (new.number, b"file", other.number)]
+    first = Addition("2-b", [new, other], changes, [], FIRST + 20)
+    moved = [(FIRST, b"file0", 0), (FIRST, b"file1", other.number), (ROOT, b"moved", FIRST + 1)]
+    second = Addition("3-c", [], [*moved, (new.number, b"file", 0)], [FIRST + 2], FIRST + 21)
+    last = Addition("4-d", [], [(ROOT, b"new\xff", 0)], [new.number], FIRST + 21)
+    for later in (first, second, last):
+        files.add(later)
+    found = read_state(files.path)
+    if not score.check(found is not None and found[1] == [first, second, last], "names are read"):
+        return
+    assert found is not None
+    for later in found[1]:
+        apply(found[0], later)
+    tree, due = found[0].tree, tree_of(3)
+    due.nodes[other.number] = other
+    del due.nodes[FIRST + 2]
+    due.entries[ROOT][b"moved"] = FIRST + 1
+    due.entries[FIRST] = {b"file1": other.number, b"file2": FIRST + 3}
+    score.check((tree.nodes, tree.entries) == (due.nodes, due.entries), f"applied: {tree}")
+    score.check((found[0].serial, found[0].following) == ("4-d", FIRST + 21), "serial and number")
+    os.truncate(files.path, files.path.stat().st_size - 9)
+    found = read_state(files.path)
+    score.check(found is not None and found[1] == [first, second], "a line that was cut off")
 
-    Neither knew documents.
+
+def older(folder: Path, score: Score) -> None:
+    """States of the first format, which had each directory in one line, and of later ones.
+
+    The first two knew no documents.
     """
     state = State("1-a", tree_of(2 * PIECE), {}, FIRST, False)
     for one in state.tree.nodes.values():
@@ -93,9 +126,12 @@ def older(folder: Path, score: Score) -> None:
     head, *lines = map(json.loads, spell_state(state))
     del head["known"]
     path = folder / "older"
-    path.write_text("".join(json.dumps(one) + "\n" for one in (head | {"format": 2}, *lines)))
-    found = read_state(path)
-    score.check(found is not None and same(found[0], state), "the second format")
+    for number in (2, 3):
+        told = (head | {"format": number}, *lines)
+        path.write_text("".join(json.dumps(one) + "\n" for one in told))
+        found = read_state(path)
+        score.check(found is not None and same(found[0], state), f"format {number}")
+        score.check(found is not None and found[0].format == number, f"format {number} is known")
     whole: dict[int, list[list[object]]] = {}
     for line in lines:
         before = whole.setdefault(line[0][0], [line[0], [], [], []])
@@ -106,7 +142,7 @@ def older(folder: Path, score: Score) -> None:
     path.write_text("".join(json.dumps(one) + "\n" for one in (head, *whole.values())))
     found = read_state(path)
     score.check(found is not None and same(found[0], state), "the first format")
-    score.check(FORMAT == 3, "the format of new states")
+    score.check(FORMAT == 4, "the format of new states")
     path.write_text(json.dumps(head | {"format": FORMAT + 1}) + "\n")
     try:
         read_state(path)
@@ -166,6 +202,8 @@ def main() -> int:
             folder = Path(name) / str(size)
             os.mkdir(folder)
             written_and_read(folder, size, score)
+        (Path(name) / "names").mkdir()
+        names(Path(name) / "names", score)
         older(Path(name), score)
         sorting(score)
         links(Path(name), score)

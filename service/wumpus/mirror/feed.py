@@ -16,7 +16,7 @@ from .ledger import Ledger
 from .nodes import MARK, ROOT, Node, Tree
 from .planner import Plan, Planner
 from .reach import NoMemory, Reach, Served
-from .state import Addition, BadState, Files, State, apply, new_serial, read_state
+from .state import FORMAT, Addition, BadState, Files, State, apply, new_serial, read_state
 
 LINES_AT_LEAST = 1000  # of a piece of a batch for which memory is short
 
@@ -84,7 +84,8 @@ class Feeder:
             if self._is_at(serials[count]):
                 for addition in additions[:count]:
                     apply(state, addition)
-                if additions or not self.files.is_whole():
+                if additions or state.format != FORMAT or not self.files.is_whole():
+                    state.format = FORMAT
                     self.files.prepare(state)
                     self.files.commit()
                 return state

@@ -1,8 +1,8 @@
 """What the mirror knows of the program's tree, kept in a file between its turns.
 
 The file `mirror.state` has one JSON value a line: first the whole state, in a line of its own and
-one for each directory, or several where it has many names, and then one line for each later batch
-in which no name changed, with the nodes that it changed. A whole state that is about to be fed
+one for each directory, or several where it has many names, and then one line for each later batch,
+with the nodes that it changed, and the names where some went or came. A whole state that is about to be fed
 stands in `mirror.next` first. Both are written before their batch is fed: which of them is true, the
 program tells, since each batch has a serial of its own, the name of a directory in the closed one.
 """
@@ -24,9 +24,10 @@ from .nodes import (
     FIRST, Node, Origin, Rights, Tree, device_of, first_tree, identity_at, inode_of,
 )  # fmt: skip
 
-FORMAT = 3
-# The first had one line for each directory, and the second knew no documents.
-READ = (1, 2, FORMAT)
+FORMAT = 4
+# The first had one line for each directory, the second knew no documents, and in the third no later
+# batch had names.
+READ = (1, 2, 3, FORMAT)
 ADDED_AT_MOST = 16 << 20  # bytes of later batches, beside twice the whole state
 PIECE = 4096  # names of a directory in a line, which is in memory as a whole
 NAME = "mirror.state"
@@ -45,6 +46,7 @@ class State:
     was had been looked at once; `following` is the number to try first for a new node. `unlisted`
     tells how the rights of directories were read, and `known` by what documents are known: each
     file is of the kind that it is by that, but for those whose numbers are among the unsorted.
+    `format` is that of the file in which it was written.
     """
 
     serial: str = ""
@@ -56,6 +58,7 @@ class State:
     complete: bool = False
     known: Known = ()
     unsorted: set[int] = field(default_factory=set)
+    format: int = FORMAT
 
     def sort_by(self, known: Known) -> None:
         """Has each file looked at again that may be of another kind, where kinds are known so.
@@ -79,13 +82,18 @@ class State:
 
 @dataclass(slots=True)
 class Addition:
-    """A later batch in which no name changed: its serial, and the nodes that it changed.
+    """A later batch: its serial, and the nodes that it changed, or that came.
 
-    Where it has the serial of the one before, no batch was fed: only more is known of the nodes.
+    Where it has the serial of the one before, no batch was fed: only more is known of the nodes. A
+    name that leads to another node now is there with its number, and one that went with 0. Nodes
+    that are `gone` have no name any more. Where names came `following` is the number to try next.
     """
 
     serial: str
     nodes: list[Node]
+    names: list[tuple[int, bytes, int]] = field(default_factory=list)
+    gone: list[int] = field(default_factory=list)
+    following: int = 0
 
 
 def opened(path: Path) -> int:
@@ -200,7 +208,13 @@ def spell_state(state: State) -> Iterator[str]:
 def spell_addition(addition: Addition) -> str:
     """The line of a later batch."""
     nodes = [_spell_node(node) for node in addition.nodes]
-    told = {"serial": addition.serial, "nodes": nodes}
+    told: dict[str, Any] = {"serial": addition.serial, "nodes": nodes}
+    if addition.names:
+        told["names"] = [
+            [directory, name.decode("utf-8", "surrogateescape"), number]
+            for directory, name, number in addition.names
+        ]
+        told |= {"gone": addition.gone, "following": addition.following}
     return json.dumps(told, separators=(",", ":")) + "\n"
 
 
@@ -220,6 +234,7 @@ def read_state(path: Path) -> tuple[State, list[Addition]] | None:
             state = State(
                 told["serial"], Tree(), users, told["following"], told["lists"], unlisted
             )
+            state.format = told["format"]
             state.complete = told.get("complete", False)
             state.known = tuple((kind, by) for kind, by in told.get("known", ()))
             for _ in range(told["directories" if told["format"] == 1 else "lines"]):
@@ -249,14 +264,33 @@ def _read_directory(reader: _Reader, tree: Tree, line: str) -> None:
 
 def _read_addition(reader: _Reader, line: str) -> Addition:
     told = json.loads(line)
-    return Addition(told["serial"], [reader.node(one) for one in told["nodes"]])
+    names = [
+        (directory, name.encode("utf-8", "surrogateescape"), number)
+        for directory, name, number in told.get("names", ())
+    ]
+    nodes = [reader.node(one) for one in told["nodes"]]
+    return Addition(
+        told["serial"], nodes, names, told.get("gone", []), told.get("following", 0)
+    )
 
 
 def apply(state: State, addition: Addition) -> None:
     """Brings a state to what it is after a later batch."""
     state.serial = addition.serial
+    state.following = addition.following or state.following
+    nodes, entries = state.tree.nodes, state.tree.entries
     for node in addition.nodes:
-        state.tree.nodes[node.number] = node
+        nodes[node.number] = node
+        if node.is_directory:
+            entries.setdefault(node.number, {})
+    for directory, name, number in addition.names:
+        if number:
+            entries[directory][name] = number
+        else:
+            entries[directory].pop(name, None)
+    for number in addition.gone:
+        nodes.pop(number, None)
+        entries.pop(number, None)
 
 
 def sync_folder(folder: Path) -> None:
