@@ -32,7 +32,10 @@ SERVICE_TESTS := \
 	mirror \
 	allow \
 	narrow \
+	looks \
 	live \
+	dirty \
+	chosen \
 	meeting \
 	bounds \
 	unseen \

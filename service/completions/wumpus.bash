@@ -8,7 +8,7 @@ _wumpus_options() {
         return
         ;;
     --live)
-        mapfile -t COMPREPLY < <(compgen -W "narrow off" -- "$current")
+        mapfile -t COMPREPLY < <(compgen -W "narrow full off" -- "$current")
         return
         ;;
     --group)

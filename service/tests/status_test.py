@@ -110,6 +110,11 @@ def texts(place: Place, score: Score) -> None:
         place.put("mirror.status", of_mirror(time.time()) | {"live": live})
         status, out, _ = place.run()
         score.check(status == WELL and due in out, f"without what is live: {out}")
+    full = of_mirror(time.time())
+    full["live"]["full"] = {"looks": 70, "failed": 3, "longest": 0.1, "left": 4}
+    place.put("mirror.status", full)
+    out = place.run()[1]
+    score.check("70 looks at changes; left to turns: 4\n" in out, f"looks: {out}")
     place.put("mirror.status", of_mirror(time.time()) | {"live": {"why": 7}})
     score.check(place.run()[0] == TROUBLE, "what is live, and isn't of its type")
 

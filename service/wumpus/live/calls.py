@@ -18,14 +18,18 @@ GROUP = FAN_CLOEXEC | FAN_NONBLOCK | FAN_REPORT_FID | FAN_REPORT_DIR_FID | FAN_R
 # fanotify_mark(2).
 FAN_MARK_ADD = 0x1
 FAN_MARK_FILESYSTEM = 0x100
+FAN_MODIFY = 0x2
 FAN_ATTRIB = 0x4  # mode, owner, access list, count of names
+FAN_CLOSE_WRITE = 0x8
 FAN_MOVED_FROM = 0x40
 FAN_MOVED_TO = 0x80
+FAN_CREATE = 0x100
 FAN_DELETE = 0x200
 FAN_MOVE_SELF = 0x800
 FAN_Q_OVERFLOW = 0x4000
 FAN_ONDIR = 0x40000000
 LESS = FAN_ATTRIB | FAN_MOVED_FROM | FAN_MOVED_TO | FAN_DELETE | FAN_MOVE_SELF | FAN_ONDIR
+ALL = LESS | FAN_MODIFY | FAN_CLOSE_WRITE | FAN_CREATE
 
 # openat2(2), whose number is the same on all machines.
 _OPENAT2 = 437
@@ -61,10 +65,10 @@ def new_group() -> int:
     return _checked(_libc.fanotify_init(GROUP, os.O_RDONLY | os.O_CLOEXEC))
 
 
-def mark_file_system(group: int, directory: int) -> None:
-    """Has a group told of what becomes less on a directory's file system. Raises `OSError`."""
+def mark_file_system(group: int, directory: int, mask: int) -> None:
+    """Has a group told of what the mask says on a directory's file system. Raises `OSError`."""
     what = FAN_MARK_ADD | FAN_MARK_FILESYSTEM
-    _checked(_libc.fanotify_mark(group, what, LESS, directory, None))
+    _checked(_libc.fanotify_mark(group, what, mask, directory, None))
 
 
 def mark_directory(group: int, directory: int) -> None:

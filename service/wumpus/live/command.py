@@ -65,7 +65,7 @@ def _try_kernel() -> None:
     try:
         here = os.open("/", os.O_RDONLY | os.O_DIRECTORY)
         try:
-            calls.mark_file_system(group, here)
+            calls.mark_file_system(group, here, calls.ALL)
         finally:
             os.close(here)
     finally:

@@ -12,6 +12,7 @@ from typing import Protocol
 
 from ..mirror.mounts import GOOD, Mounts
 from ..mirror.nodes import ROOT, Identity, Tree, device_of, identity_of
+from ..mirror.state import Addition
 from .calls import handle_of, open_handle, open_here
 from .events import handle_in, key_of, system_in
 from .replaced import Replaced
@@ -79,6 +80,15 @@ class Directories:
         number = self.by_identity.get(identity)
         return found if number is None else found | {number}
 
+    def is_at(self, number: int, place: int) -> bool:
+        """Whether what is open there is a directory that is known here: by its handle, too."""
+        key, identity = self.keys.get(number, (b"", 0))
+        try:
+            is_same = bool(key) and identity_of(os.fstat(place)) == identity
+            return is_same and handle_of(place) == handle_in(key)
+        except OSError:
+            return False
+
     def open(self, number: int, beside: "Beside") -> int | None:
         """Opens a directory by its handle, as a place; None where it isn't known here.
 
@@ -100,7 +110,7 @@ class Directories:
                 places[child] = (parent, name)
         before, self.places = self.places, places
         self.by_identity = {node.identity: number for number, node in tree.nodes.items()}
-        ways = self._ways(tree)
+        ways = self.ways(tree)
         devices = {device_of(tree.nodes[one].identity) for one in tree.entries.keys() - ways}
         self.bad.clear()
         self._look_at_systems(devices)
@@ -119,7 +129,38 @@ class Directories:
             names.append(name)
         return b"/" + b"/".join(reversed(names))
 
-    def _ways(self, tree: Tree) -> set[int]:
+    # ---- what a look changed
+
+    def takes_away(self, tree: Tree, addition: Addition) -> None:
+        """What is about to be changed in a tree goes."""
+        after = {node.number: node.identity for node in addition.nodes}
+        for number in {*addition.gone, *after}:
+            node = tree.nodes.get(number)
+            if node is not None and node.identity != after.get(number):
+                if self.by_identity.get(node.identity) == number:
+                    del self.by_identity[node.identity]
+        for number in addition.gone:
+            self.places.pop(number, None)
+            if number in self.keys:
+                self._forget(number)
+
+    def adds(self, tree: Tree, addition: Addition) -> None:
+        """What was changed in a tree comes."""
+        for node in addition.nodes:
+            self.by_identity[node.identity] = node.number
+        for directory, name, number in addition.names:
+            if number in tree.entries:
+                self.places[number] = (directory, name)
+
+    def take_in(self, tree: Tree, numbers: set[int]) -> list[int]:
+        """Takes in directories, also those with another handle now: which may be otherwise."""
+        if not numbers:
+            return []
+        taking = _Taking(self, tree, numbers)
+        taking.run()
+        return taking.differing
+
+    def ways(self, tree: Tree) -> set[int]:
         """The directories above the roots."""
         ways = {ROOT}
         for root in self.roots:
@@ -236,14 +277,17 @@ def _system_at(descriptor: int) -> tuple[int, bytes]:
 
 
 class _Taking:
-    """Goes down from `/` to each directory of a tree that isn't known yet, and takes it in."""
+    """Goes down from `/` to each directory of a tree that isn't known yet, and takes it in; or to
+    those that are wanted."""
 
-    def __init__(self, directories: Directories, tree: Tree) -> None:
+    def __init__(
+        self, directories: Directories, tree: Tree, wanted: set[int] | None = None
+    ) -> None:
         self.directories = directories
         self.tree = tree
         self.differing: list[int] = []
         keys, nodes = directories.keys, tree.nodes
-        self.wanted = {
+        self.wanted = wanted or {
             number
             for number in tree.entries
             if number not in keys or keys[number][1] != nodes[number].identity

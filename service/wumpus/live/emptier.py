@@ -17,7 +17,7 @@ import termios
 
 from ..shared.clock import moment
 from ..shared.program import die_with_parent
-from .calls import FAN_Q_OVERFLOW
+from .calls import FAN_ONDIR, FAN_Q_OVERFLOW, LESS
 from .events import Unreadable, is_of_directory, split
 
 READ = 1 << 18  # bytes at once
@@ -30,6 +30,7 @@ OF_EVENT = 400  # bytes beside its own that an event takes
 AT_ONCE = 20_000  # events that the mirror is given at once
 ASKS = b"?"
 HEAD = struct.Struct("=IIQ")  # of what is given: its bytes, flags, and up to which moment
+WHOLE = 1 << 32  # beside what happened to one name: to others of its directory, too
 LOST, LOST_OF_ONE = 1, 2  # by the kernel, or for want of memory; and of one directory
 EVENT = struct.Struct("=QI")  # what happened, and how many bytes tell where
 FILES = b""  # in the place of the directory, of events that name none
@@ -65,8 +66,12 @@ class Kept:
                 events[names] = before | what
             elif self.size >= BYTES_MAX:
                 self.flags |= LOST
+            elif len(events) >= OF_ONE and directory == FILES:
+                pass
+            elif len(events) >= OF_ONE and what & LESS & ~FAN_ONDIR:
+                self.flags |= LOST_OF_ONE
             elif len(events) >= OF_ONE:
-                self.flags |= 0 if directory == FILES else LOST_OF_ONE
+                events[next(iter(events))] |= WHOLE
             else:
                 events[names] = what
                 self.size += len(names) + OF_EVENT

@@ -22,9 +22,11 @@ from ..mirror.turn import Mirror
 from ..shared.store import Failed
 from . import calls
 from .directories import Beside, Directories
+from .emptier import WHOLE
 from .events import Unreadable, told_in
 from .hearing import Hearing
 from .mounting import Mounting, node_at
+from .kept import ALL, Kept
 from .reader import Event, Gone, Reader
 from .seeing import Seeing
 from .waiting import Item, Waiting
@@ -34,6 +36,7 @@ ROUND_SECONDS = 0.03  # in which is looked before what became less is fed
 BETWEEN = 0.05  # seconds from one batch to the next
 SAVED_AFTER = 10.0  # seconds in which what was fed is saved
 UNSAVED_MOST = 200  # batches that may be unsaved; the service keeps a few more
+UNSAVED_BYTES = 32 << 20  # of texts in them
 OUTSIDE = -1  # the person of what is told of no known name, where others may have made it
 ALONE = -2  # of what is told of a file alone, as when it has another count of names
 OTHERS = 0o022  # the modes of a directory by which not its owner alone makes names in it
@@ -46,12 +49,16 @@ OF_NAMES = calls.FAN_DELETE | calls.FAN_MOVED_FROM | calls.FAN_MOVED_TO
 
 @dataclass(frozen=True)
 class Settings:
-    """Where `wumpus-watch` answers, the planner, what is mirrored, and how rights are read."""
+    """Where `wumpus-watch` answers, the planner, what is mirrored, and how rights are read.
+
+    Where it is full, all that changes is kept for looks, beside what becomes less.
+    """
 
     watch: Path
     planner: str
     roots: tuple[bytes, ...]
     access: Access
+    is_full: bool = False
 
 
 @dataclass
@@ -64,15 +71,16 @@ class Counts:
 
 
 class _GroupMarks:
-    """Marks of one group."""
+    """Marks of one group, which is told of all changes, or of what becomes less."""
 
-    def __init__(self, watcher: Watcher, group: int) -> None:
+    def __init__(self, watcher: Watcher, group: int, is_full: bool) -> None:
         self.watcher = watcher
         self.group = group
+        self.is_full = is_full
 
     def system(self, directory: int) -> None:
         """Of a file system, which the mirror itself may not mark."""
-        self.watcher.mark(self.group, directory)
+        self.watcher.mark(self.group, directory, self.is_full)
 
     def one(self, directory: int) -> None:
         """Of one directory."""
@@ -96,6 +104,7 @@ class Narrowing:
         self.settings = settings
         self.person_of = person_of
         self.counts = Counts()
+        self.kept = Kept()  # for looks
         self.why: str | None = "it has not begun"  # why it isn't at work; None where it is
         self.failure: Exception | None = None
         self.is_lost = False  # events were: a walk has to come
@@ -109,7 +118,7 @@ class Narrowing:
         self.waiting = Waiting()
         self.hearing = Hearing(reach)
         self.compared: Tree | None = None  # the tree whose directories are known
-        self.unsaved = 0
+        self.unsaved = self.unsaved_bytes = 0
         self.unsaved_since = 0.0
         self.thread = threading.Thread(target=self._run, name="narrowing", daemon=True)
 
@@ -135,13 +144,34 @@ class Narrowing:
             return
         tree, marks = self.mirror.state.tree, self.directories.marks_made
         differing = self.directories.renew(tree)
-        with self.ledger:
-            self.directories.replaced.renew(tree)
-            for number in differing:
-                self._put(self._person_of(number), Item(number))
-            if self.directories.marks_made != marks:
+        if self.directories.marks_made != marks:
+            with self.ledger:
                 self.hearing.miss()  # of what is there nothing was told until now
+        self.compare([Item(number) for number in differing])
+        if self.settings.is_full:
+            for number in differing:
+                self.kept.tell_of(number, is_whole=True)
+
+    def compare(self, items: list[Item]) -> None:
+        """Has what may be otherwise than a tree says that was fed just now looked at."""
+        tree = self.mirror.state.tree
+        with self.ledger:
+            if self.directories is not None:
+                self.directories.replaced.renew(tree)
+            for item in items:
+                names = tree.entries.get(item.directory, {})
+                known = names.get(item.name, 0) if item.name else item.directory
+                self._put(self._person_of(known), item)
             self.compared = tree
+        self._wake()
+
+    def fed_beside(self, size: int) -> None:
+        """A look fed a batch that isn't saved, with so many bytes of texts. Raises `Failed`."""
+        with self.ledger:
+            self._count_unsaved()
+            self.unsaved_bytes += size
+            if self.unsaved_bytes > UNSAVED_BYTES and not self.ending:
+                self._save()
         self._wake()
 
     def check(self) -> None:
@@ -203,7 +233,8 @@ class Narrowing:
         except (NoWatch, OSError) as error:
             self.why = f"the kernel doesn't tell of changes: {error}"
             return
-        self.directories = Directories(_GroupMarks(watcher, group), self.settings.roots)
+        marks = _GroupMarks(watcher, group, self.settings.is_full)
+        self.directories = Directories(marks, self.settings.roots)
         self.compared = None
         self.mounting = self.mounting or Mounting(self.settings.roots)
         self.reader = Reader(group, self.mounting.descriptor)
@@ -275,11 +306,15 @@ class Narrowing:
                     self.hearing.tell(self.waiting.since())
             late = time.monotonic() - self.unsaved_since >= SAVED_AFTER
             if self.unsaved and (late or self.unsaved >= UNSAVED_MOST) and not self.ending:
-                self.feeder.save_taken(self.reach)
-                self.unsaved = 0
+                self._save()
         if fed:
             time.sleep(BETWEEN)
         self.waiting.tidy()
+
+    def _save(self) -> None:
+        """Saves what was fed. Under the lock. Raises `Failed`."""
+        self.feeder.save_taken(self.reach)
+        self.unsaved = self.unsaved_bytes = 0
 
     def _count_lost(self, flags: int) -> None:
         if flags:
@@ -315,10 +350,16 @@ class Narrowing:
                 key, name, file = told_in(bytes_)
             except Unreadable:
                 continue
+            if self.settings.is_full:
+                self.kept.tell(key, name, file)
+                if what & WHOLE:
+                    self.kept.tell(key, ALL, b"")
+            if not what & calls.LESS:
+                continue
             directory = directories.number_of(key)
             names = tree.entries.get(directory, {}) if directory is not None else {}
             known = directory if name == ITSELF else names.get(name)
-            person = self._whose(directory, known) if key else ALONE
+            person = self.whose(directory, known) if key else ALONE
             if directory is not None and name == ITSELF:
                 self._put(person, Item(directory))
             elif what & OF_NAMES and name in names:
@@ -335,7 +376,7 @@ class Narrowing:
             self.counts.lost += not self.is_lost
             self._lose()
 
-    def _whose(self, directory: int | None, known: int | None) -> int:
+    def whose(self, directory: int | None, known: int | None) -> int:
         """The person to whom an event counts: the owner of the known node, or of the directory.
 
         Where others may make names in a directory its owner mustn't wait for them.
@@ -388,11 +429,16 @@ class Narrowing:
         after = narrowed(before, rights)
         if after is not before:
             found[number] = after
+            if self.settings.is_full:
+                self.kept.tell_of(number)
         return after is not before
 
     def _count(self, nodes: int) -> None:
         self.counts.narrowed += nodes
         self.counts.batches += 1
+        self._count_unsaved()
+
+    def _count_unsaved(self) -> None:
         if not self.unsaved:
             self.unsaved_since = time.monotonic()
         self.unsaved += 1

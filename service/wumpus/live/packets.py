@@ -1,13 +1,15 @@
 """What goes between the mirror and `wumpus-watch`: one packet asks, and one answers.
 
 `group` is answered `ok`, with the descriptor of a new group. `mark` comes with that of a group and
-with that of a directory, whose file system is marked in it, and is answered `ok`. Both may be
-answered `failed` and an error's number.
+with that of a directory, whose file system is marked in it, and is answered `ok`; `mark-all` does
+the same for changes by which nothing becomes less, too. Each may be answered `failed` and an
+error's number.
 """
 
 SOCKET = "/run/wumpus-watch/socket"
 GROUP = b"group"
 MARK = b"mark"
+MARK_ALL = b"mark-all"
 OK = b"ok"
 FAILED = b"failed"
 SIZE_MAX = 64  # bytes of a packet

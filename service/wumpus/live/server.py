@@ -8,10 +8,11 @@ from collections.abc import Callable
 
 from ..shared.peers import user_of
 from . import calls
-from .packets import FILES_MAX, GROUP, MARK, OK, SIZE_MAX, failed
+from .packets import FILES_MAX, GROUP, MARK, MARK_ALL, OK, SIZE_MAX, failed
 
 CLIENTS_MAX = 8
 BAD_REQUEST = 22  # EINVAL
+MASKS = {MARK: calls.LESS, MARK_ALL: calls.ALL}
 
 
 class Server:
@@ -79,8 +80,8 @@ class Server:
         try:
             if asked == GROUP and not files:
                 made = calls.new_group()
-            elif asked == MARK and len(files) == 2 and _is_directory(files[1]):
-                calls.mark_file_system(files[0], files[1])
+            elif asked in MASKS and len(files) == 2 and _is_directory(files[1]):
+                calls.mark_file_system(files[0], files[1], MASKS[asked])
             else:
                 client.send(failed(BAD_REQUEST))
                 return

@@ -12,17 +12,19 @@ from ..mirror.reach import Direct, Served
 from ..mirror.turn import Mirror
 from ..shared.progress import plain
 from ..shared.store import CONTROL
+from .looks import Looks
 from .narrowing import Narrowing, Settings
 from .packets import SOCKET
 
-OFF, NARROW = "off", "narrow"
+OFF, NARROW, FULL = "off", "narrow", "full"
 
 
 def add_live(options: argparse.ArgumentParser) -> None:
     """The options."""
     add = options.add_argument
-    add("--live", choices=(OFF, NARROW), default=NARROW,
-        help="narrow: take rights away at once, beside turns; off: turns alone")  # fmt: skip
+    add("--live", choices=(OFF, NARROW, FULL), default=NARROW,
+        help="narrow: take rights away at once, beside turns; full: look at all that changes, too; "
+        "off: turns alone")  # fmt: skip
     add("--watch", default=SOCKET, metavar="PATH", help=f"of wumpus-watch ({SOCKET})")
 
 
@@ -32,23 +34,27 @@ def beside(
     mirror: Mirror,
     reach: Direct | Served,
     person_of: Callable[[int], int],
-) -> Iterator[Narrowing | None]:
-    """Takes rights away meanwhile, where turns go on and a service answers. Raises `Failed`."""
+) -> Iterator[tuple[Narrowing | None, Looks | None]]:
+    """Takes rights away meanwhile, where turns go on and a service answers; and what looks at all
+    else that changes, where that is wanted. Raises `Failed`."""
     if given.live == OFF or given.every is None or isinstance(reach, Direct):
         if isinstance(reach, Served):
             reach.unheard()
-        yield None
+        yield None, None
         return
     roots = tuple(os.fsencode(root) for root in given.roots)
-    settings = Settings(Path(given.watch), given.planner, roots, Access(given.unlisted))
+    is_full = given.live == FULL
+    access = Access(given.unlisted)
+    settings = Settings(Path(given.watch), given.planner, roots, access, is_full)
     own = Served(Path(given.sockets) / CONTROL)
     narrowing = Narrowing(mirror, own, settings, person_of)
+    looks = Looks(mirror, narrowing) if is_full else None
     try:
         narrowing.begin()
         if narrowing.why is not None:
             told = f"what is taken away waits for the next turn: {narrowing.why}"
             print(f"wumpus-mirror: {plain(told)}", file=sys.stderr)
-        mirror.walk_is_fed = narrowing.walk_is_fed
-        yield narrowing
+        mirror.walk_is_fed = narrowing.walk_is_fed if looks is None else looks.walk_is_fed
+        yield narrowing, looks
     finally:
         narrowing.end()

@@ -6,7 +6,7 @@ from collections.abc import Sequence
 from pathlib import Path
 
 from ..shared.peers import user_of
-from .packets import GROUP, MARK, SIZE_MAX, error_in
+from .packets import GROUP, MARK, MARK_ALL, SIZE_MAX, error_in
 
 SECONDS = 5.0  # for an answer
 
@@ -32,9 +32,12 @@ class Watcher:
         os.set_inheritable(files[0], False)
         return files[0]
 
-    def mark(self, group: int, directory: int) -> None:
-        """Has a directory's file system marked; it has to be open for reading."""
-        for file in self._ask(MARK, [group, directory]):
+    def mark(self, group: int, directory: int, is_full: bool) -> None:
+        """Has a directory's file system marked, for all changes or for what becomes less.
+
+        The directory has to be open for reading.
+        """
+        for file in self._ask(MARK_ALL if is_full else MARK, [group, directory]):
             os.close(file)
 
     def _ask(self, what: bytes, files: Sequence[int]) -> list[int]:

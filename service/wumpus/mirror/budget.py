@@ -10,7 +10,7 @@ import sys
 import time
 from collections import Counter
 from collections.abc import Callable
-from dataclasses import dataclass
+from dataclasses import dataclass, field
 
 from .nodes import Identity, Tree
 
@@ -77,6 +77,23 @@ class Account:
             self.fresh_directories += directories
 
 
+@dataclass(slots=True)
+class Counts:
+    """How many names, and how many directories, the program has of each owner's."""
+
+    names: Counter[int] = field(default_factory=Counter)
+    directories: Counter[int] = field(default_factory=Counter)
+
+    @staticmethod
+    def of(tree: Tree) -> "Counts":
+        """Those of a tree."""
+        nodes, found = tree.nodes, Counts()
+        for entries in tree.entries.values():
+            found.names.update(nodes[child].rights.owner for child in entries.values())
+        found.directories.update(nodes[number].rights.owner for number in tree.entries)
+        return found
+
+
 class Accounts:
     """The accounts of a walk, or of the looks after it, by person and by directory of user 0.
 
@@ -98,15 +115,14 @@ class Accounts:
 
     def reserve(self, tree: Tree) -> None:
         """Keeps room for what the program has."""
-        nodes = tree.nodes
-        names: Counter[int] = Counter()
-        for entries in tree.entries.values():
-            names.update(nodes[child].rights.owner for child in entries.values())
-        directories = Counter(nodes[number].rights.owner for number in tree.entries)
-        for owner, count in names.items():
+        self.reserve_counted(Counts.of(tree))
+
+    def reserve_counted(self, counts: Counts) -> None:
+        """The same, where it is counted already."""
+        for owner, count in counts.names.items():
             account = self.of_owner(owner)
             account.fresh_names = max(0, account.fresh_names - count)
-        for owner, count in directories.items():
+        for owner, count in counts.directories.items():
             account = self.of_owner(owner)
             account.fresh_directories = max(0, account.fresh_directories - count)
 

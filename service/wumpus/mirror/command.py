@@ -19,6 +19,7 @@ from .. import VERSION
 from ..extract.client import Extractor
 from ..extract.kinds import TABLE, BadTable, Table, table_here
 from ..extract.packets import SOCKET
+from ..live.looks import Looks
 from ..live.narrowing import Narrowing
 from ..live.setup import add_live, beside
 from ..shared.notify import notify
@@ -44,6 +45,7 @@ from .wanted import Wanted, take_wanted, want
 SOON = 2.0  # seconds after which what failed is tried again
 TOLD_AGAIN = 60.0  # seconds after which the same failure is told again
 SLICE_AT_LEAST = 1.0  # seconds
+LOOKS_BETWEEN = 0.5  # seconds of looks at what the kernel told of, between two slices
 LOOKED_FOR_WANTED = 1.0  # seconds between two looks for what an administrator asks
 DESCRIPTORS = 4096
 STARTING = "starting"  # what the mirror does before its first walk
@@ -208,6 +210,7 @@ class Session:
         self.table: Table | None = None  # of kinds of documents, as it was good last
         self.told = ""  # what was missing or held at the last turn
         self.narrowing: Narrowing | None = None
+        self.looks: Looks | None = None
 
     def run(self) -> None:
         """Raises the `FAILURES`: `Unfinished` after a single turn."""
@@ -235,8 +238,10 @@ class Session:
             if self.given.dry_run:
                 mirror.dry_run(self._wish(), sys.stdout.buffer)
             else:
-                with beside(self.given, mirror, reach, self.persons.of) as self.narrowing:
+                live = beside(self.given, mirror, reach, self.persons.of)
+                with live as (self.narrowing, self.looks):
                     self.watch.status.narrowing = self.narrowing
+                    self.watch.status.looks = self.looks
                     self._turns(mirror)
             is_whole = True
         except Unfinished:
@@ -307,7 +312,11 @@ class Session:
         while True:
             left = due - time.monotonic()
             most = SLICE_SECONDS if left <= 0 else max(SLICE_AT_LEAST, left)
-            more = mirror.look(wish, min(SLICE_SECONDS, most))
+            usual = SLICE_SECONDS
+            if self.looks is not None:
+                usual = SLICE_AT_LEAST if mirror.state.complete else SLICE_SECONDS
+                self.looks.go_on(LOOKS_BETWEEN, waits=False)
+            more = mirror.look(wish, min(usual, most))
             asked = take_wanted(self.folder)
             if asked and not self._narrow(mirror, asked):
                 return asked
@@ -328,10 +337,10 @@ class Session:
     def _wait(self, mirror: Mirror, due: float) -> Wanted:
         """Waits until the next turn is due, or asked for."""
         while (left := due - time.monotonic()) > 0:
-            time.sleep(min(left, LOOKED_FOR_WANTED))
+            self._pause(min(left, LOOKED_FOR_WANTED))
             self.watch.pulse()
             asked = take_wanted(self.folder)
-            if asked and self._narrow(mirror, asked):
+            if asked and self._narrow(mirror, asked) or self._has_work(mirror):
                 asked = self._look(mirror, self._wish(), due)
                 mirror.rest()
                 self.watch.status.count(mirror.state.tree)
@@ -339,6 +348,20 @@ class Session:
             if asked or (self.narrowing is not None and self.narrowing.takes_walk()):
                 return asked
         return Wanted()
+
+    def _pause(self, seconds: float) -> None:
+        """Waits, or looks at what the kernel told of, for so long."""
+        if self.looks is None:
+            time.sleep(seconds)
+        else:
+            self.looks.go_on(seconds)
+
+    def _has_work(self, mirror: Mirror) -> bool:
+        """Whether looks left files, or documents, to the mirror."""
+        wish = mirror.whole
+        if self.looks is None or wish is None:
+            return False
+        return bool(mirror.pending.turns) or mirror.documents.has_work(wish.budget.documents)
 
     def _warn_of_documents(self, mirror: Mirror) -> None:
         """Tells why documents have no text, where that is so of all."""

@@ -6,6 +6,7 @@ tells, by the serial of its last batch.
 
 from dataclasses import replace
 from pathlib import Path
+from typing import Protocol
 
 from ..shared.progress import Progress
 from ..shared.script import spell
@@ -19,6 +20,26 @@ from .reach import NoMemory, Reach, Served
 from .state import FORMAT, Addition, BadState, Files, State, apply, new_serial, read_state
 
 LINES_AT_LEAST = 1000  # of a piece of a batch for which memory is short
+
+
+class Reaches(Protocol):
+    """Reaches a program that a service holds."""
+
+    def feed(self, batch: Batch, word: bytes) -> None:
+        """Feeds a batch whole, or not at all; by the word `live` one that isn't saved."""
+
+
+class Follower(Protocol):
+    """Keeps something that is made of the tree, and is told of each change by a look."""
+
+    def is_less(self, number: int) -> None:
+        """A node is given less than the look saw, since something of it was taken away."""
+
+    def takes_away(self, tree: Tree, addition: Addition) -> None:
+        """The tree is about to be changed."""
+
+    def adds(self, tree: Tree, addition: Addition) -> None:
+        """It was."""
 
 
 class Feeder:
@@ -173,6 +194,58 @@ class Feeder:
             batch.close()
         apply(self.state, addition)
 
+    def feed_part(
+        self,
+        old: Tree,
+        new: Tree,
+        following: int,
+        texts: Texts,
+        reach: Reaches,
+        follower: Follower,
+    ) -> bool:
+        """Brings the program from a part of its tree to another one, texts among it, in one batch.
+
+        The part has all names of each file in it that changes, and the ways to it. Nothing is given
+        that was taken away since the look began, and nothing is saved. Tells whether something was
+        fed. Raises `NoMemory`, and `Failed`.
+        """
+        with self.ledger:
+            known, before = self.state.tree.nodes, self.state.serial
+            old.nodes = {number: known[number] for number in old.nodes}
+            for number in self.ledger.seen.keys() & old.nodes.keys() & new.nodes.keys():
+                node = self.ledger.corrected(new.nodes[number])
+                if node is not new.nodes[number]:
+                    new.nodes[number] = node
+                    follower.is_less(number)
+            plan = self.planner.plan(old, new, {}, {})
+            addition = _difference(old, new)
+            addition.following = following
+            if plan.is_empty() and not texts.count:
+                addition.serial = before
+                self._follow(addition, follower)
+                return False
+            addition.serial = new_serial(before)
+            head = [*begin(before, addition.serial), *plan.head]
+            tail = [*plan.tail, *end(addition.serial)[:-1]]
+            self.files.add(addition)
+            batch = Batch(self.folder, head, texts, tail)
+            try:
+                reach.feed(batch, b"live")
+            except NoMemory:
+                self.files.take_back()
+                raise
+            finally:
+                batch.close()
+            self._follow(addition, follower)
+            self.batches += 1
+            return True
+
+    def _follow(self, addition: Addition, follower: Follower) -> None:
+        """Brings the state to what it is now, and whoever goes by it."""
+        follower.takes_away(self.state.tree, addition)
+        apply(self.state, addition)
+        follower.adds(self.state.tree, addition)
+
     def save_taken(self, reach: Served) -> None:
         """Saves what was taken away so, under the lock. Raises `Failed`."""
         batch = Batch(self.folder, [SAVE], None, [])
@@ -252,3 +325,18 @@ def _have_same_names(old: Tree, new: Tree) -> bool:
         names is new.entries[number] or names == new.entries[number]
         for number, names in old.entries.items()
     )
+
+
+def _difference(old: Tree, new: Tree) -> Addition:
+    """What leads from a part of a tree to another one, without a serial."""
+    nodes = [node for number, node in new.nodes.items() if old.nodes.get(number) != node]
+    gone = [number for number in old.nodes if number not in new.nodes]
+    names: list[tuple[int, bytes, int]] = []
+    for directory, before in old.entries.items():
+        if directory in new.entries:
+            after = new.entries[directory]
+            names += [(directory, name, 0) for name in before if name not in after]
+    for directory, after in new.entries.items():
+        before = old.entries.get(directory, {})
+        names += [(directory, name, one) for name, one in after.items() if before.get(name) != one]
+    return Addition("", nodes, names, gone)

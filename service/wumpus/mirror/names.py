@@ -3,7 +3,9 @@
 import os
 import stat
 import time
-from collections.abc import Callable, Container, Iterator
+from collections.abc import Callable, Container, Iterable, Iterator, Set
+from contextlib import contextmanager
+from typing import Protocol
 
 from ..shared.script import NAME_MAX
 from .budget import Account, Accounts
@@ -16,8 +18,16 @@ from .visit import Listing
 from .way import Step
 
 DECLINES = b".nowumpus"
+FEW = 64  # names that are asked for one by one, rather than that a directory is listed for them
 CHUNK = 1000  # names after which the time of a listing is counted
 PLACE_FLAGS = os.O_PATH | os.O_NOFOLLOW | os.O_CLOEXEC
+
+
+class Known(Protocol):
+    """Nodes by identity."""
+
+    def get(self, identity: Identity, /) -> Node | None:
+        """The node of a file or directory; None where it isn't known."""
 
 
 def _is_as_known(known: Node, status: os.stat_result) -> bool:
@@ -150,6 +160,57 @@ class Reading:
         return self.account.seconds > 0
 
 
+class Single:
+    """A name that is asked for by itself, as a listing has it."""
+
+    def __init__(self, directory: int, name: bytes) -> None:
+        self.directory = directory
+        self.name = os.fsdecode(name)
+        self.status: os.stat_result | None = None
+
+    def stat(self, *, follow_symlinks: bool) -> os.stat_result:
+        """Its status, which is asked for once. Raises `OSError`."""
+        if self.status is None:
+            self.status = os.stat(
+                self.name, dir_fd=self.directory, follow_symlinks=follow_symlinks
+            )
+        return self.status
+
+    def is_dir(self, *, follow_symlinks: bool) -> bool:
+        """Whether it is a directory. Raises `OSError`."""
+        return stat.S_ISDIR(self.stat(follow_symlinks=follow_symlinks).st_mode)
+
+    def is_file(self, *, follow_symlinks: bool) -> bool:
+        """Whether it is a file. Raises `OSError`."""
+        return stat.S_ISREG(self.stat(follow_symlinks=follow_symlinks).st_mode)
+
+
+def _singles(directory: int, names: Set[bytes], unasked: Container[bytes]) -> Iterator[Single]:
+    """Those of some names that are there; at some of them nothing is asked, as a mount's."""
+    for name in names:
+        one = Single(directory, name)
+        try:
+            if name not in unasked:
+                one.stat(follow_symlinks=False)
+        except FileNotFoundError:
+            continue
+        except OSError:
+            pass  # who takes it meets the same error, and tells it
+        yield one
+
+
+@contextmanager
+def _entries(
+    directory: int, only: Set[bytes] | None, unasked: Container[bytes]
+) -> Iterator[Iterable[os.DirEntry[str] | Single]]:
+    """The names in a directory, or of those that are wanted alone. Raises `OSError`."""
+    if only is not None and len(only) <= FEW:
+        yield _singles(directory, only, unasked)
+    else:
+        with os.scandir(directory) as entries:
+            yield entries
+
+
 class Names:
     """Reads names: files as entries of their directory, directories as names to be visited.
 
@@ -160,7 +221,7 @@ class Names:
     def __init__(
         self,
         limits: Limits,
-        known: dict[Identity, Node],
+        known: Known,
         systems: FileSystems,
         force: bool,
         unsorted: Container[int] = (),
@@ -176,7 +237,7 @@ class Names:
         reading: Reading,
         step: Step,
         places: dict[bytes, RootPlace],
-        only: Container[bytes] | None = None,
+        only: Set[bytes] | None = None,
     ) -> Iterator[bytes]:
         """Takes the files of a directory, and gives the names of its directories.
 
@@ -188,7 +249,7 @@ class Names:
         left_out = self.systems.left_out_in(directory)
         seen: set[bytes] = set(places)
         try:
-            with os.scandir(step.descriptor) as entries:
+            with _entries(step.descriptor, only, left_out) as entries:
                 for count, entry in enumerate(entries, 1):
                     name = os.fsencode(entry.name)
                     name = kept.get(name, name)
@@ -217,7 +278,7 @@ class Names:
             reading.keep(name, Reason.COVERED)
 
     def _take(
-        self, reading: Reading, step: Step, entry: os.DirEntry[str], name: bytes
+        self, reading: Reading, step: Step, entry: "os.DirEntry[str] | Single", name: bytes
     ) -> bool:
         """Takes one name: whether it is a directory's."""
         try:

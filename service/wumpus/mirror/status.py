@@ -41,6 +41,7 @@ class StatusFile:
         self.owners: dict[int, dict[str, int]] = {}  # names and bytes, as after the last walk
         self.documents = self.unmade = 0  # all, and those of which no text was made yet
         self.narrowing: Told | None = None
+        self.looks: Told | None = None
 
     def count(self, tree: Tree) -> None:
         """Counts names and bytes of texts by owner, after a walk."""
@@ -102,8 +103,15 @@ class StatusFile:
             ],
             "left_out": [{"path": os.fsdecode(path), "why": why} for path, why in remarks.left_out],
             "held": "; ".join(held) or None,
-            "live": None if self.narrowing is None else self.narrowing.told(),
+            "live": self._live(),
         }
+
+    def _live(self) -> dict[str, object] | None:
+        """What is done live; None where there are turns alone."""
+        if self.narrowing is None:
+            return None
+        looks = {} if self.looks is None else {"full": self.looks.told()}
+        return self.narrowing.told() | looks
 
     def _owners(self, remarks: Remarks, pending: Pending) -> dict[str, Any]:
         told: dict[str, Any] = {

@@ -30,7 +30,7 @@ from .limits import BadRoot, Limits, NotNarrow
 from .look import Looked, Looker
 from .making import Making
 from .narrow import NarrowTarget, part_of
-from .nodes import Node
+from .nodes import Node, Tree
 from .pending import FIRST, Pending, Place
 from .planner import Planner
 from .reach import NoMemory, Reach
@@ -298,8 +298,8 @@ class Mirror:
                 if not places:
                     break
                 owner = places[0].file.owner
-                found = self._look_at(looker, self.room, places, texts)
-                self._note_documents(found, wish.person_of(owner))
+                found = self.look_at(looker, self.room, places, texts, self.state.tree, self.shut)
+                self.note_documents(found, wish.person_of(owner))
                 taken += found
                 if self.state.complete and self.accounts.of_owner(owner).seconds <= 0:
                     self.pending.set_aside(wish.person_of(owner))
@@ -311,11 +311,20 @@ class Mirror:
             looker.close()
         return taken
 
-    def _look_at(
-        self, looker: Looker, room: Room, places: list[Place], texts: Texts
+    def look_at(
+        self,
+        looker: Looker,
+        room: Room,
+        places: list[Place],
+        texts: Texts,
+        tree: Tree,
+        shut: Callable[[Place, Reason], None],
     ) -> list[Looked]:
-        """Looks at some files of one person: those that are to be fed. Their texts are gathered."""
-        nodes = self.state.tree.nodes
+        """Looks at some files of one person: those that are to be fed. Their texts are gathered.
+
+        The tree has them as they are known, and `shut` is called with those that stay shut.
+        """
+        nodes = tree.nodes
         waiting = []
         for place in places:
             self.report.looked += 1
@@ -323,7 +332,7 @@ class Mirror:
             before = nodes[place.file.number]
             is_new = place.file.known is None
             if is_new and room.is_exceeded(before, place.file.owner, place.text_bytes):
-                self._shut(place, Reason.BYTES)
+                shut(place, Reason.BYTES)
             else:
                 waiting.append(place)
         taken = []
@@ -331,38 +340,39 @@ class Mirror:
             place, before = found.place, nodes[found.place.file.number]
             if not isinstance(found, Looked):
                 if place.file.known is None:
-                    self._shut(place, found.why)
+                    shut(place, found.why)
                 elif found.why is not Reason.TORN:
                     self._end_sorting({before.number})
                 continue
-            node = self._listed(place, found.node)
+            node = self._listed(place, found.node, shut)
             if node.origin is not None and node.origin.is_same(before.origin):
                 node.digest, node.origin = before.digest, before.origin
             if node.digest != before.digest:
                 if node.digest and room.is_exceeded(before, node.rights.owner, node.size):
-                    self._shut(place, Reason.BYTES)
+                    shut(place, Reason.BYTES)
                     continue
                 if room.is_short(len(found.text) + texts.size):
-                    self._shut(place, Reason.DISK)
+                    shut(place, Reason.DISK)
                     continue
                 texts.add(node.number, found.text)
                 room.count(before, node)
             taken.append(Looked(place, node, b""))
         return taken
 
-    def _listed(self, place: Place, node: Node) -> Node:
+    def _listed(self, place: Place, node: Node, shut: Callable[[Place, Reason], None]) -> Node:
         """The same, or shut and to be looked at again where the program knows no lists."""
         if node.rights.entries and not self.state.lists:
-            self._shut(place, Reason.LIST)
+            shut(place, Reason.LIST)
             node.rights, node.changed = node.rights.shut(), 0
         return node
 
-    def _shut(self, place: Place, why: Reason) -> None:
+    def shut(self, place: Place, why: Reason) -> None:
+        """Tells that a file stays shut."""
         self.remarks.shut(why, place.file.owner, place.directory, place.name)
 
     # ---- documents
 
-    def _note_documents(self, taken: list[Looked], person: int) -> None:
+    def note_documents(self, taken: list[Looked], person: int) -> None:
         """Has text made of those documents among a person's files that were looked at."""
         for found in taken:
             if self.documents.is_due(found.node):
@@ -438,7 +448,7 @@ class Mirror:
         except NoMemory:
             self.room = None
             if len(taken) == 1:
-                self._shut(taken[0].place, Reason.MEMORY)
+                self.shut(taken[0].place, Reason.MEMORY)
                 return
             self.most = len(taken) // 2
             self.pending.put_back([found.place for found in taken], wish.person_of)

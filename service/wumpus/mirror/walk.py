@@ -14,7 +14,7 @@ from .access import BadList
 from .budget import Accounts
 from .keep import DEEPEST
 from .limits import BadRoot, Limits, NotNarrow, RootPlace, places_of_roots
-from .names import DECLINES, FileSystems, Names, Reading, is_declined
+from .names import DECLINES, FileSystems, Known, Names, Reading, is_declined
 from .nodes import ROOT, Identity, Node, Rights, Tree, device_of, identity_of, inode_of
 from .reasons import Reason
 from .remarks import Remarks, path_of
@@ -33,6 +33,7 @@ class Walk:
 
     `old` is the tree that the program has. Where `force` isn't set, what a file system that went
     had is `held`: kept and shut. The files of the `unsorted` numbers are looked at for their kind.
+    `known` has the tree's nodes by identity, where somebody has that already.
     """
 
     def __init__(
@@ -44,9 +45,10 @@ class Walk:
         tick: Callable[[int], None],
         force: bool = False,
         unsorted: Container[int] = (),
+        known: Known | None = None,
     ) -> None:
         self.old = old
-        self.known = {node.identity: node for node in old.nodes.values()}
+        self.known: Known = known or {node.identity: node for node in old.nodes.values()}
         self.limits = limits
         self.accounts = accounts
         self.remarks = remarks
@@ -360,6 +362,9 @@ class Walk:
         """Reads the names of a directory: its files, and visits of its directories."""
         directory, visit = listing.directory, listing.visit
         places = visit.place.below if visit.place is not None else {}
+        if visit.place is not None and visit.place.is_inner:
+            if not places.keys().isdisjoint(self.systems.left_out_in(directory)):
+                raise NotNarrow  # a server might never answer for what is mounted there
         device = visit.device
         fresh: list[Visit] = []
         known: list[Visit] = []

@@ -137,14 +137,26 @@ class Documents:
 
 
 @dataclass(frozen=True)
+class Looks:
+    """Looks at what changed, and how much of it was left to the turns."""
+
+    count: int
+    left: int
+
+
+@dataclass(frozen=True)
 class Live:
-    """What is done beside the turns: `why` tells why it isn't, and `unmarked` where it can't be."""
+    """What is done beside the turns: `why` tells why it isn't, and `unmarked` where it can't be.
+
+    `looks` is None where rights are taken away, and all else waits for the turns.
+    """
 
     why: str | None
     unmarked: list[LeftOut]
     narrowed: int
     batches: int
     lost: int
+    looks: Looks | None = None
 
 
 @dataclass(frozen=True)
@@ -298,7 +310,11 @@ def _documents_of(told: Fields) -> Documents | None:
 def _live_of(told: Fields) -> Live:
     unmarked = [LeftOut(one.text("path"), one.text("why")) for one in told.objects("unmarked")]
     counts = (told.whole("narrowed"), told.whole("batches"), told.whole("lost"))
-    return Live(told.text_or_none("why"), unmarked, *counts)
+    looks = None
+    if told.values.get("full") is not None:
+        full = told.object("full")
+        looks = Looks(full.whole("looks"), full.whole("left"))
+    return Live(told.text_or_none("why"), unmarked, *counts, looks)
 
 
 def _user_of(owners: Fields, word: str) -> int:

@@ -81,12 +81,14 @@ def _of_mirror(mirror: MirrorStatus) -> Iterator[str]:
 
 
 def _of_live(live: Live | None) -> Iterator[str]:
-    """What is taken away beside the turns."""
+    """What is taken away beside the turns, and what is looked at."""
     if live is None or live.why is not None:
         why = "" if live is None else f": {plain(live.why or '')}"
         yield f"  live     no: what is taken away waits for the next turn{why}"
         return
     yield f"  live     {live.narrowed} taken away in {live.batches} batches; lost: {live.lost}"
+    if live.looks is not None:
+        yield f"           {live.looks.count} looks at changes; left to turns: {live.looks.left}"
     for one in live.unmarked:
         yield f"           not {plain(one.path)}, which waits for the next turn: {plain(one.why)}"
 
