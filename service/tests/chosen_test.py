@@ -18,9 +18,13 @@ from harness import Score, needs_program, needs_root, options
 from looks_test import ASKER, CLOSED, Field, field
 from race_test import OWNER
 
+from wumpus.live.directories import Beside  # isort: skip
 from wumpus.live.dirty import Spot  # isort: skip
 from wumpus.live.look import Look, Seen  # isort: skip
 from wumpus.live.narrowing import Narrowing  # isort: skip
+from wumpus.live.seeing import NOBODY, Seeing  # isort: skip
+from wumpus.live.waiting import Item  # isort: skip
+from wumpus.mirror.access import Access  # isort: skip
 from wumpus.mirror.batch import Texts  # isort: skip
 from wumpus.mirror.look import Failed, Looker  # isort: skip
 from wumpus.mirror.nodes import ROOT, Rights  # isort: skip
@@ -287,9 +291,23 @@ def again(place: Place) -> None:
     place.score.check(known.keys[place.number(inner)] != key, f"{place.name}: its handle")
 
 
+def again_by_turn(place: Place) -> None:
+    """One that was made again is known by its new handle after a walk, too."""
+    inner = made_again(place)
+    known, tree = place.made.looks.directories, place.made.mirror.state.tree
+    assert known is not None
+    key, above = known.keys[place.number(inner)], place.number(inner.parent)
+    beside = Beside(known)
+    seen = Seeing(known, tree, Access(), beside).look(Item(above, b"inner"))
+    beside.close()
+    place.score.check([one for _, one in seen] == [NOBODY], f"{place.name}: {seen}")
+    place.begin()
+    place.score.check(known.keys[place.number(inner)] != key, f"{place.name}: its handle")
+
+
 PARTS = (
     opened, opened_and_torn, opened_on_the_way, closed_above, other_name, moved, comes_and_is_torn,
-    directory_comes, goes_below, replaced, taken_meanwhile, again,
+    directory_comes, goes_below, replaced, taken_meanwhile, again, again_by_turn,
 )  # fmt: skip
 
 

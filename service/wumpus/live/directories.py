@@ -63,6 +63,7 @@ class Directories:
     lock: threading.Lock = field(default_factory=threading.Lock)  # for the list of mounts
     bad: dict[int, tuple[bytes, str]] = field(default_factory=dict)
     is_unreached: bool = False  # an event told of what is on a system that can't be opened
+    doubted: set[int] = field(default_factory=set)  # directories that may have another handle now
 
     def close(self) -> None:
         """Closes what is open."""
@@ -230,6 +231,12 @@ class Directories:
         if self.by_key.get(key) == number:
             del self.by_key[key]
 
+    def take_doubted(self, tree: Tree) -> set[int]:
+        """The directories of a tree that may have another handle now than is known."""
+        doubted = list(self.doubted)  # another thread may add one
+        self.doubted.difference_update(doubted)
+        return set(doubted) & tree.entries.keys()
+
     def take(self, number: int, identity: Identity, place: int, path: bytes) -> bool:
         """Takes in a directory that is open as a place: whether the kernel tells of it."""
         device = device_of(identity)
@@ -291,7 +298,7 @@ class _Taking:
             number
             for number in tree.entries
             if number not in keys or keys[number][1] != nodes[number].identity
-        }
+        } | directories.take_doubted(tree)
         self.below: dict[int, list[tuple[bytes, int]]] = {}
 
     def run(self) -> None:

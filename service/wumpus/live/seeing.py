@@ -10,7 +10,7 @@ import os
 import stat
 
 from ..mirror.access import Access, BadList
-from ..mirror.nodes import ROOT, Node, Rights, Tree, device_of, identity_of
+from ..mirror.nodes import ROOT, Identity, Node, Rights, Tree, device_of, identity_of
 from .calls import open_here
 from .directories import Beside, Directories
 from .waiting import Item
@@ -138,19 +138,33 @@ class Seeing:
             descriptor = open_here(above, name)
         except OSError as error:
             is_mount = error.errno == errno.EXDEV and node.is_directory
-            return [] if is_mount and self._is_mounted(node) else [(node.number, NOBODY)]
+            return [] if is_mount and self._is_mounted(node) else self._gone(node)
         finally:
             os.close(above)
         try:
             identity = identity_of(os.fstat(descriptor))
+            if node.is_directory and self._is_other(node, identity, descriptor):
+                return self._gone(node)
             if identity != node.identity:
-                if node.is_directory:
-                    return [(node.number, NOBODY)]
                 # What becomes less of the other one concerns this node from now on, too.
                 self.directories.replaced.put((directory, name), identity)
             return [(node.number, self._rights(node, descriptor, os.fstat(descriptor)))]
         finally:
             os.close(descriptor)
+
+    def _is_other(self, node: Node, identity: Identity, place: int) -> bool:
+        """Whether another directory is open there than the one that is known."""
+        known = self.directories
+        if identity != node.identity:
+            return True
+        return node.number in known.keys and not known.is_at(node.number, place)
+
+    def _gone(self, node: Node) -> Seen:
+        """A node that isn't where it was. A directory may be made there again, with its inode: it
+        has another handle then, by which it is known from the next walk on."""
+        if node.is_directory:
+            self.directories.doubted.add(node.number)
+        return [(node.number, NOBODY)]
 
     def _rights(self, node: Node, descriptor: int, status: os.stat_result) -> Rights:
         """The rights of what is open there as a place, where it is of the node's kind."""
