@@ -226,12 +226,13 @@ class Looks:
         """Feeds what was seen, and takes in what is new. Raises `NoMemory`, and `Failed`."""
         mirror, before, after = self.mirror, seen.before, seen.target.tree
         follower = _Follower(self)
-        is_fed = mirror.feeder.feed_part(
-            before, after, seen.target.following, texts, self.narrowing.reach, follower
-        )
-        if is_fed:
-            self.narrowing.fed_beside(texts.size)
-        self._take_in(seen, follower)
+        with self.narrowing.comparing():
+            is_fed = mirror.feeder.feed_part(
+                before, after, seen.target.following, texts, self.narrowing.reach, follower
+            )
+            if is_fed:
+                self.narrowing.fed_beside(texts.size)
+            self._take_in(seen, follower)
         wish = mirror.whole
         if wish is not None and (seen.later or mirror.pending.files):
             tree, found = mirror.state.tree, seen.target.places

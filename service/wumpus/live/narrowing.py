@@ -5,11 +5,12 @@ else waits for the next walk, so nothing is shown that the walks wouldn't show. 
 can't tell, the turns are all there is.
 """
 
+import contextlib
 import sys
 import threading
 import time
 import traceback
-from collections.abc import Callable
+from collections.abc import Callable, Iterator
 from dataclasses import dataclass
 from pathlib import Path
 
@@ -25,8 +26,8 @@ from .directories import Beside, Directories
 from .emptier import WHOLE
 from .events import Unreadable, told_in
 from .hearing import Hearing
-from .mounting import Mounting, node_at
 from .kept import ALL, Kept
+from .mounting import Mounting, node_at
 from .reader import Event, Gone, Reader
 from .seeing import Seeing
 from .waiting import Item, Waiting
@@ -164,6 +165,18 @@ class Narrowing:
                 self._put(self._person_of(known), item)
             self.compared = tree
         self._wake()
+
+    @contextlib.contextmanager
+    def comparing(self) -> Iterator[None]:
+        """Tells nothing of how far it is, while what is fed has yet to be compared once more."""
+        with self.ledger:
+            was_compared = self.compared is self.mirror.state.tree
+            self.compared = None
+        try:
+            yield
+        finally:
+            with self.ledger:
+                self.compared = self.mirror.state.tree if was_compared else None
 
     def fed_beside(self, size: int) -> None:
         """A look fed a batch that isn't saved, with so many bytes of texts. Raises `Failed`."""
