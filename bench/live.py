@@ -65,7 +65,8 @@ class Bench:
             for words in (
                 [str(SERVICE / "wumpus-watch"), "--socket", watch],
                 [str(SERVICE / "wumpusd"), *places, "--program", os.path.abspath(given.wumpus),
-                 "--query-seconds", "60", "--idle-seconds", "3600", "--age-seconds", "3600"],
+                 "--query-seconds", "60", "--idle-seconds", "3600", "--age-seconds", "3600",
+                 "--stale", "7200"],
             )
         ]  # fmt: skip
         while not (self.sockets / "control").exists():
