@@ -50,8 +50,11 @@ def listener(given: argparse.Namespace) -> tuple[socket.socket, float | None]:
         raise OSError("no socket is given: --socket makes one")
     Path(given.socket).unlink(missing_ok=True)
     made = socket.socket(socket.AF_UNIX, socket.SOCK_SEQPACKET)
-    os.umask(0o177)
-    made.bind(given.socket)
+    before = os.umask(0o177)
+    try:
+        made.bind(given.socket)
+    finally:
+        os.umask(before)
     if given.owner is not None:
         account = pwd.getpwnam(given.owner)
         os.chown(given.socket, account.pw_uid, account.pw_gid)
