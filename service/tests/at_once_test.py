@@ -266,6 +266,11 @@ def mount(kind: bytes, place: Path, words: bytes) -> None:
         raise OSError(error, os.strerror(error))
 
 
+def unmount(place: Path) -> None:
+    """Takes a mount away, also one that somebody uses."""
+    _libc.umount2(os.fsencode(place), 2)
+
+
 def turns_alone(stage: Stage, score: Score, words: tuple[str, ...], why: str) -> None:
     """Without what is live all waits for the next turn, and that is told."""
     file = stage.tree / "file"

@@ -7,13 +7,15 @@ nothing.
 
 import mmap
 import os
+import signal
 import sys
 import time
 from collections.abc import Iterator
-from contextlib import contextmanager
+from contextlib import contextmanager, suppress
 from pathlib import Path
 from unittest import mock
 
+from at_once_test import mount, unmount
 from harness import Score, needs_program, needs_root, options
 from looks_test import ASKER, CLOSED, Field, field
 from race_test import OWNER
@@ -22,17 +24,23 @@ from wumpus.live.directories import Beside  # isort: skip
 from wumpus.live.dirty import Spot  # isort: skip
 from wumpus.live.look import Look, Seen  # isort: skip
 from wumpus.live.narrowing import Narrowing  # isort: skip
+from wumpus.live.part import TooLarge  # isort: skip
 from wumpus.live.seeing import NOBODY, Seeing  # isort: skip
 from wumpus.live.waiting import Item  # isort: skip
 from wumpus.mirror.access import Access  # isort: skip
 from wumpus.mirror.batch import Texts  # isort: skip
 from wumpus.mirror.look import Failed, Looker  # isort: skip
+from wumpus.mirror.limits import NotNarrow  # isort: skip
 from wumpus.mirror.nodes import ROOT, Rights  # isort: skip
 from wumpus.mirror.pending import Place as Waiting  # isort: skip
 from wumpus.mirror.reasons import Reason  # isort: skip
 
 SECRET, PUBLIC = b"secret one\n", b"public one\n"
 OLD = 0.06  # seconds after which a ctime can be trusted
+
+
+class Hangs(BaseException):
+    """It took too long; nobody catches this as an error of a file."""
 
 
 class Place:
@@ -305,9 +313,39 @@ def again_by_turn(place: Place) -> None:
     place.score.check(known.keys[place.number(inner)] != key, f"{place.name}: its handle")
 
 
+def covered(place: Place) -> None:
+    """What never answers lies over a directory, or over a file: it isn't opened, nor asked for."""
+    inner = place.top / "open" / "inner"
+    inner.mkdir()
+    file = place.write("open/file", PUBLIC)
+    place.begin()
+
+    def late(*_: object) -> None:
+        raise Hangs
+
+    signal.signal(signal.SIGALRM, late)
+    for over, mode in ((inner, 0o40000), (file, 0o100000)):
+        descriptor = os.open("/dev/fuse", os.O_RDWR)
+        words = f"fd={descriptor},rootmode={mode:o},user_id=0,group_id=0,allow_other"
+        mount(b"fuse", over, words.encode())
+        signal.alarm(20)
+        try:
+            for look in (place.look_at, place.look)[mode == 0o100000 :]:
+                with suppress(NotNarrow, TooLarge):
+                    look(over)
+            place.score.check(True, "")
+        except Hangs:
+            place.score.check(False, f"{place.name}: it hangs at {over.name}")
+        finally:
+            signal.alarm(0)
+            unmount(over)
+            os.close(descriptor)
+
+
 PARTS = (
     opened, opened_and_torn, opened_on_the_way, closed_above, other_name, moved, comes_and_is_torn,
     directory_comes, goes_below, replaced, taken_meanwhile, again, again_by_turn,
+    covered,
 )  # fmt: skip
 
 

@@ -98,9 +98,9 @@ def turns(score: Score) -> None:
         score.check([one and (one[0], len(one[1])) for one in taken] == [(5, 8), (6, 1)], "in turn")
         line.is_done(6, 0.0)
         line.put(6, Spot(6), before)
-        line.is_done(5, 2.0)
+        line.is_done(5, 0.9)
         score.check([line.take(), line.take()] == [(6, [Spot(6)]), None], "who took time waits")
-        now[0] += 2.0
+        now[0] += 0.9
         first = line.take()
         line.failed(5, 0.0, True)
         fewer = line.take()

@@ -19,7 +19,8 @@ AGAIN, AGAIN_MOST = 0.03, 1.0  # seconds until what failed is tried again, at fi
 GIVEN_UP = 60.0  # seconds after which that is left to the turns
 AT_MOST = 20_000  # that wait, of one person
 AT_ONCE = 500  # in one look
-BETWEEN = 0.5  # seconds between two looks at one name
+CHARGED_MOST = 1.0  # seconds that somebody waits for a look that took as long, or longer
+BETWEEN = 0.25  # seconds between two looks at one name
 BYTES_A_SECOND = 256 << 10  # of one file that goes on changing
 
 
@@ -125,13 +126,13 @@ class Dirty:
     def is_done(self, person: int, seconds: float) -> None:
         """A look went well, in so many seconds."""
         line = self.lines[person]
-        line.ready = self.clock() + seconds
+        line.ready = self.clock() + min(CHARGED_MOST, seconds)
         line.most = min(AT_ONCE, 2 * line.most)
 
     def failed(self, person: int, seconds: float, is_final: bool) -> None:
         """A look failed: of several spots fewer are tried next, and one is tried later, or left."""
         line, now = self.lines[person], self.clock()
-        line.ready = now + seconds
+        line.ready = now + min(CHARGED_MOST, seconds)
         if len(self.taken) > 1:
             line.most = max(1, len(self.taken) // 2)
             for spot, due in self.taken.items():

@@ -146,6 +146,8 @@ def main() -> None:
     group, number = int(sys.argv[1]), int(sys.argv[2])
     try:
         empty(group, socket.socket(fileno=number))
+    except ConnectionError:
+        pass  # the mirror ended, with something untaken
     except (Unreadable, OSError) as error:
         print(f"wumpus-mirror: events can't be read: {error}", file=sys.stderr)
         sys.exit(1)

@@ -30,7 +30,7 @@ from .part import MOST, Part, TooLarge, wanted_beside
 PATIENCE = 0.1  # seconds that a look waits for what is young, or changes
 ROUNDS = 6  # of walks in a look, each of which may want more than the one before
 WALK_SECONDS = 2.0
-FILES, BYTES, SECONDS = 2_000, 4 << 20, 0.25  # of files that are read in a look
+FILES, BYTES, SECONDS = 2_000, 2 << 20, 0.25  # of files that are read in a look
 UNSTEADY = (Reason.TORN, Reason.UNSEEN, Reason.SECONDS)
 
 

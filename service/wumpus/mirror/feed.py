@@ -209,15 +209,12 @@ class Feeder:
         that was taken away since the look began, and nothing is saved. Tells whether something was
         fed. Raises `NoMemory`, and `Failed`.
         """
+        planned = self.state.serial
+        plan = self.planner.plan(old, new, {}, {})
         with self.ledger:
-            known, before = self.state.tree.nodes, self.state.serial
-            old.nodes = {number: known[number] for number in old.nodes}
-            for number in self.ledger.seen.keys() & old.nodes.keys() & new.nodes.keys():
-                node = self.ledger.corrected(new.nodes[number])
-                if node is not new.nodes[number]:
-                    new.nodes[number] = node
-                    follower.is_less(number)
-            plan = self.planner.plan(old, new, {}, {})
+            before = self.state.serial
+            if self._correct_part(old, new, follower) or before != planned:
+                plan = self.planner.plan(old, new, {}, {})
             addition = _difference(old, new)
             addition.following = following
             if plan.is_empty() and not texts.count:
@@ -239,6 +236,20 @@ class Feeder:
             self._follow(addition, follower)
             self.batches += 1
             return True
+
+    def _correct_part(self, old: Tree, new: Tree, follower: Follower) -> bool:
+        """Has a look's part begin with what the program has by now, and give nothing that was taken
+        away since the look began: whether that changed it. Under the lock."""
+        known, is_other = self.state.tree.nodes, False
+        for number, node in old.nodes.items():
+            if known[number] is not node:
+                old.nodes[number], is_other = known[number], True
+        for number in self.ledger.seen.keys() & old.nodes.keys() & new.nodes.keys():
+            node = self.ledger.corrected(new.nodes[number])
+            if node is not new.nodes[number]:
+                new.nodes[number], is_other = node, True
+                follower.is_less(number)
+        return is_other
 
     def _follow(self, addition: Addition, follower: Follower) -> None:
         """Brings the state to what it is now, and whoever goes by it."""
