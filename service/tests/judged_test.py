@@ -2,7 +2,8 @@
 
 Processes make random calls: modes, owners, lists, links, names that come, go and are swapped. When
 they end, nothing is shown beyond what the kernel lets each user open, though the mirror's turns
-come each five seconds alone. After some more turns each user is shown just that.
+come each five seconds alone. After some more turns each user is shown just that. With `--live full`
+she is, too, though no turn comes at all.
 """
 
 import os
@@ -117,6 +118,25 @@ def is_made_good(stage: Stage, top: bytes) -> bool:
     return holds()
 
 
+def followed(stage: Stage, score: Score, seed: int, rounds: int) -> None:
+    """Random calls, and then each user is told just what she may open, though no turn comes."""
+    top = os.fsencode(stage.tree / "random")
+    many_files(stage.tree / "random")
+    times = []
+    began = stage.walked()
+    for number in range(rounds):
+        Opening(top, seed * 1_000_000 + number).some(15)
+        quiet = time.monotonic()
+        is_good = is_made_good(stage, top)
+        times.append(time.monotonic() - quiet)
+        if not score.check(is_good, f"round {number}: not as the kernel: {stage.told()['live']}"):
+            break
+    score.check(stage.walked() == began, "a turn came")
+    times.sort()
+    told = f"{times[len(times) // 2]:.2f} s, {times[-1]:.2f} s at most"
+    print(f"judged: followed in {told}, of {len(times)}: {stage.told()['live']}", flush=True)
+
+
 def main() -> int:
     """Runs the test."""
     parser = options(__doc__ or "")
@@ -129,7 +149,11 @@ def main() -> int:
     def random_calls(stage: Stage, score: Score) -> None:
         judged(stage, score, given.seed, given.rounds)
 
+    def random_calls_followed(stage: Stage, score: Score) -> None:
+        followed(stage, score, given.seed, given.rounds // 2)
+
     on_stage(given.program, score, random_calls, every="5")
+    on_stage(given.program, score, random_calls_followed, words=("--live", "full"))
     return score.end()
 
 

@@ -200,8 +200,9 @@ def on_stage(
     what: Callable[[Stage, Score], None],
     every: str = SELDOM,
     bounds: tuple[str, ...] = (),
+    words: tuple[str, ...] = (),
 ) -> None:
-    """Does something with all three, after a first turn."""
+    """Does something with all three, after a first turn; the mirror gets the words, too."""
     with folder_of_own() as name:
         stage = Stage(Path(name), program)
         stage.bounds = bounds
@@ -217,7 +218,7 @@ def on_stage(
         os.link(stage.tree / "ann" / "folder12" / "inner" / "secret", stage.folder / "aside" / "it")
         os.chown(stage.folder / "aside", ANN.number, ANN.number)
         try:
-            stage.begin(every=every)
+            stage.begin(*words, every=every)
             if score.check(stage.rests(), f"{what.__name__}: no turn in {LATER:.0f} s"):
                 what(stage, score)
         finally:
