@@ -125,7 +125,8 @@ def followed(stage: Stage, score: Score, seed: int, rounds: int) -> None:
     times = []
     began = stage.walked()
     for number in range(rounds):
-        Opening(top, seed * 1_000_000 + number).some(15)
+        with suppress(NotImplementedError):  # of a mode of a symbolic link
+            Opening(top, seed * 1_000_000 + number).some(15)
         quiet = time.monotonic()
         is_good = is_made_good(stage, top)
         times.append(time.monotonic() - quiet)

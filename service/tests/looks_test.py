@@ -109,6 +109,12 @@ class Field:
                 else:
                     below.unlink(missing_ok=True)
 
+    def go_on(self, seconds: float) -> None:
+        """Looks for so long, and walks where the kernel lost events, as the mirror does."""
+        self.looks.go_on(seconds)
+        if self.narrowing.takes_walk():
+            self.mirror.walk(self.wish)
+
     def settle(self) -> bool:
         """Looks at all that came: whether there is an end of that."""
         self.marks += 1
@@ -116,7 +122,7 @@ class Field:
         (self.roots[0] / os.fsdecode(mark)).touch()  # what came before it is told before it
         calm, until = 0, time.monotonic() + LATER
         while time.monotonic() < until and calm < 3:
-            self.looks.go_on(0.05)
+            self.go_on(0.05)
             while self.mirror.look(self.wish, 1.0):
                 pass
             tree = self.mirror.state.tree
@@ -209,7 +215,7 @@ def calls(field: Field, seed: int, threads: int, count: int) -> None:
         done, _ = os.waitpid(children[-1], os.WNOHANG)
         if done:
             children.pop()
-        field.looks.go_on(0.02)
+        field.go_on(0.02)
 
 
 def rounds(score: Score, program: str, seed: int, count: int) -> None:
@@ -232,8 +238,8 @@ def rounds(score: Score, program: str, seed: int, count: int) -> None:
             before = was_left
             if missing:
                 made.mirror.turn(made.wish)
-        told = made.looks.told()
-        print(f"looks: {count} rounds, {left} left to a turn, {told}", flush=True)
+        told, lost = made.looks.told(), made.narrowing.counts.lost
+        print(f"looks: {count} rounds, {left} left to a turn, {lost} lost, {told}", flush=True)
 
 
 class Slow(Attack):
@@ -310,7 +316,7 @@ def secret(score: Score, program: str, seed: int, seconds: float) -> None:
         made.reach.after = look
         until = time.monotonic() + seconds
         while time.monotonic() < until:
-            made.looks.go_on(0.05)
+            made.go_on(0.05)
             if made.mirror.pending.turns:
                 made.mirror.look(made.wish, 0.2)
         os.kill(child, signal.SIGKILL)
