@@ -2,6 +2,7 @@
 
 import sys
 import threading
+from pathlib import Path
 from unittest import mock
 
 from harness import Score, options
@@ -10,8 +11,14 @@ from wumpus.live import dirty, kept  # isort: skip
 from wumpus.live.dirty import Dirty, Spot  # isort: skip
 from wumpus.live.index import Index  # isort: skip
 from wumpus.live.kept import ALL, Kept, Times  # isort: skip
+from wumpus.live.looks import Follower, Looks  # isort: skip
+from wumpus.live.narrowing import OUTSIDE  # isort: skip
 from wumpus.live.part import Part, TooLarge  # isort: skip
+from wumpus.mirror import feed  # isort: skip
+from wumpus.mirror.feed import Feeder  # isort: skip
 from wumpus.mirror.nodes import ROOT, Node, Rights, Tree  # isort: skip
+from wumpus.mirror.planner import Plan  # isort: skip
+from wumpus.mirror.reach import NoMemory  # isort: skip
 from wumpus.mirror.state import Addition, State, apply  # isort: skip
 
 
@@ -145,20 +152,59 @@ def index(score: Score) -> None:
     tree, known = tree_of(), Index()
     known.renew(tree)
     score.check(known.is_only(10, 4) and not known.is_only(11, 4), "files of one name")
-    places = sorted(known.places_of(11, tree))
+    places = sorted(known.places_of(11))
     score.check(places == [(4, b"y"), (5, b"y"), (5, b"z")], f"all of its names: {places}")
     moved = [(4, b"x", 0), (5, b"x", 10), (5, b"z", 0), (4, b"y", 12), (5, b"c", 0), (4, b"n", 20)]
     new = Node(20, False, Rights(0o644, 7, 7), b"", 120, 1, 0)
-    addition = Addition("2-a", [new], moved, [6], 30)
+    other_one = Node(11, False, Rights(0o644, 8, 8), b"", 121, 1, 0)  # another file at its place
+    addition = Addition("2-a", [new, other_one], moved, [6], 30)
     state = State("1-a", tree)
     known.takes_away(tree, addition)
     apply(state, addition)
     known.adds(tree, addition)
     other = Index()
     other.renew(tree)
-    score.check(known.parents == other.parents, f"{known.parents} for {other.parents}")
+    for number in (4, 10, 11, 12, 20):
+        found, right = set(known.places_of(number)), set(other.places_of(number))
+        score.check(found == right, f"{number}: {found} for {right}")
     counts = (+known.counts.names, +known.counts.directories)
     score.check(counts == (other.counts.names, other.counts.directories), f"{counts}")
+
+
+def lines(score: Score) -> None:
+    """Whose line it is that somebody made a new name where others may: the directory's owner's, so
+    that who makes many directories has one line; of root's each directory has its own."""
+    open_ = {0: Rights(0o777, 0, 0), 5: Rights(0o777, 5, 5), 6: Rights(0o777, 6, 6)}
+    owners = {ROOT: 0, 4: 5, 5: 5, 6: 6, 7: 0, 8: 0}
+    nodes = {one: Node(one, True, open_[who], b"", 100 + one, 1, 0) for one, who in owners.items()}
+    tree = Tree(nodes, {one: {} for one in nodes})
+    narrowing = mock.Mock(whose=mock.Mock(return_value=OUTSIDE))
+    looks = Looks(mock.Mock(**{"state.tree": tree}), narrowing)
+    told = {one: looks.person_of(Spot(one, b"new")) for one in (4, 5, 6, 7, 8)}
+    score.check(told[4] == told[5] != told[6], f"of an owner: {told}")
+    score.check(len({told[6], told[7], told[8], told[4], OUTSIDE}) == 5, f"of root: {told}")
+    narrowing.whose = mock.Mock(return_value=5)
+    score.check(looks.person_of(Spot(4, b"new")) == 5, "of a name that is known")
+
+
+def failing(score: Score) -> None:
+    """A batch of a look that the program has no room for: the mirror's word begins anew."""
+    narrowing = mock.Mock()
+    looks = Looks(mock.Mock(), narrowing)
+    planner = mock.Mock(**{"plan.return_value": Plan([], [])})
+    feeder = Feeder(mock.Mock(), Path("/nonexistent"), mock.Mock(), planner)
+    feeder.files = mock.Mock()
+    feeder.state = State("1-a", tree_of())
+    before, after = tree_of(), tree_of()
+    after.nodes[10] = Node(10, False, Rights(0o600, 5, 5), b"", 110, 2, 0)
+    reach = mock.Mock(**{"feed.side_effect": NoMemory})
+    texts = mock.Mock(count=1, size=0)
+    with mock.patch.object(feed, "Batch"):
+        try:
+            feeder.feed_part(before, after, 30, texts, reach, Follower(looks))
+            score.check(False, "it is fed")
+        except NoMemory:
+            score.check(narrowing.hearing.miss.called, "what was told until now isn't whole there")
 
 
 def parts(score: Score) -> None:
@@ -198,7 +244,7 @@ def main() -> int:
     """Runs the test; it needs no program."""
     options(__doc__ or "").parse_args()
     score = Score("dirty")
-    for part in (told, due, turns, index, parts):
+    for part in (told, due, turns, index, lines, failing, parts):
         part(score)
     return score.end()
 

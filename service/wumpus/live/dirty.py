@@ -19,7 +19,7 @@ AGAIN, AGAIN_MOST = 0.03, 1.0  # seconds until what failed is tried again, at fi
 GIVEN_UP = 60.0  # seconds after which that is left to the turns
 AT_MOST = 20_000  # that wait, of one person
 AT_ONCE = 500  # in one look
-CHARGED_MOST = 1.0  # seconds that somebody waits for a look that took as long, or longer
+CHARGED_MOST = 10.0  # seconds that somebody waits for a look that took as long, or longer
 BETWEEN = 0.25  # seconds between two looks at one name
 BYTES_A_SECOND = 256 << 10  # of one file that goes on changing
 

@@ -12,78 +12,88 @@ from ..mirror.state import Addition
 
 
 class Index:
-    """`parents` has the directory of a file, or those of each of its names where it has several."""
+    """`places` has one place of each node, and `others` those of a file with several names."""
 
     def __init__(self) -> None:
-        self.parents: dict[int, int | tuple[int, ...]] = {}
+        self.places: dict[int, Place] = {}
+        self.others: dict[int, set[Place]] = {}
         self.counts = Counts()
 
     def renew(self, tree: Tree) -> None:
         """Takes over a whole tree."""
-        parents: dict[int, int | tuple[int, ...]] = {}
-        entries = tree.entries
-        for parent, names in entries.items():
-            for child in names.values():
-                if child not in parents:
-                    parents[child] = parent
-                elif child not in entries:
-                    parents[child] = (*_several(parents[child]), parent)
-        self.parents = parents
+        self.places, self.others = {}, {}
+        for parent, names in tree.entries.items():
+            for name, child in names.items():
+                self._add(child, (parent, name))
         self.counts = Counts.of(tree)
 
     def is_only(self, number: int, directory: int) -> bool:
         """Whether a node has one name, and that in this directory."""
-        return self.parents.get(number) == directory
+        place = self.places.get(number)
+        return place is not None and place[0] == directory and number not in self.others
 
-    def places_of(self, number: int, tree: Tree) -> Iterator[Place]:
-        """Where a node is in the tree: each directory with the name."""
-        for parent in set(_several(self.parents.get(number, ()))):
-            for name, child in tree.entries.get(parent, {}).items():
-                if child == number:
-                    yield parent, name
+    def places_of(self, number: int) -> Iterator[Place]:
+        """Where a node is: each directory with the name."""
+        if number in self.places:
+            yield self.places[number]
+            yield from self.others.get(number, ())
 
     # ---- after a look
 
     def takes_away(self, tree: Tree, addition: Addition) -> None:
-        """What is about to be changed in a tree goes."""
-        for number in {*addition.gone, *(node.number for node in addition.nodes)}:
+        """What is about to be changed in a tree goes; its names count to the owners to come."""
+        after = {node.number: node for node in addition.nodes}
+        for number in {*addition.gone, *after}:
             node = tree.nodes.get(number)
-            if node is not None and node.is_directory:
+            if node is None:
+                continue
+            if node.is_directory:
                 self.counts.directories[node.rights.owner] -= 1
-        for directory, name, _ in _changing(tree, addition):
+            if number in after:
+                names = sum(1 for _ in self.places_of(number))
+                self.counts.names[node.rights.owner] -= names
+                self.counts.names[after[number].rights.owner] += names
+        for directory, name in _changing(tree, addition):
             before = tree.entries.get(directory, {}).get(name)
             if before is not None:
-                self._drop(before, directory, tree.nodes[before])
-
-    def _drop(self, number: int, directory: int, node: Node) -> None:
-        self.counts.names[node.rights.owner] -= 1
-        found = list(_several(self.parents.pop(number)))
-        found.remove(directory)
-        if found:
-            self.parents[number] = found[0] if len(found) == 1 else tuple(found)
+                self._drop(before, (directory, name))
+                self.counts.names[after.get(before, tree.nodes[before]).rights.owner] -= 1
 
     def adds(self, tree: Tree, addition: Addition) -> None:
         """What was changed in a tree comes."""
         for node in addition.nodes:
             if node.is_directory:
                 self.counts.directories[node.rights.owner] += 1
-        for directory, _, number in addition.names:
+        for directory, name, number in addition.names:
             if number:
                 self.counts.names[tree.nodes[number].rights.owner] += 1
-                found = _several(self.parents.get(number, ()))
-                self.parents[number] = (*found, directory) if found else directory
+                self._add(number, (directory, name))
+
+    def _add(self, number: int, place: Place) -> None:
+        if number in self.places:
+            self.others.setdefault(number, set()).add(place)
+        else:
+            self.places[number] = place
+
+    def _drop(self, number: int, place: Place) -> None:
+        others = self.others.get(number, set())
+        if self.places[number] != place:
+            others.remove(place)
+        elif others:
+            self.places[number] = others.pop()
+        else:
+            del self.places[number]
+        if not others:
+            self.others.pop(number, None)
 
 
-def _several(parents: int | tuple[int, ...]) -> tuple[int, ...]:
-    return parents if isinstance(parents, tuple) else (parents,)
-
-
-def _changing(tree: Tree, addition: Addition) -> Iterator[tuple[int, bytes, int]]:
+def _changing(tree: Tree, addition: Addition) -> Iterator[Place]:
     """The names that change, and those in directories that go."""
-    yield from addition.names
+    for directory, name, _ in addition.names:
+        yield directory, name
     for directory in addition.gone:
         for name in tree.entries.get(directory, ()):
-            yield directory, name, 0
+            yield directory, name
 
 
 class Known:

@@ -24,6 +24,7 @@ from .part import TooLarge
 from .waiting import Item
 
 NOT_OURS = 20_000  # handles of files that aren't mirrored, that are remembered
+BY_ROOT = -(1 << 33)  # and less: a line for each directory of root's in which others make names
 GATHER = 0.02  # seconds in which more is waited for, once something came
 
 
@@ -160,19 +161,23 @@ class Looks:
         if number in tree.entries:
             self._put(Spot(number), times)
             return
-        for directory, name in self.index.places_of(number, tree):
+        for directory, name in self.index.places_of(number):
             self._put(Spot(directory, name), times)
 
     def _put(self, spot: Spot, times: Times) -> None:
         if spot.directory in self.mirror.state.tree.entries:
-            self.dirty.put(self._person_of(spot), spot, times)
+            self.dirty.put(self.person_of(spot), spot, times)
 
-    def _person_of(self, spot: Spot) -> int:
-        """The person whose a spot is; where others make names, too, it is the directory's own."""
+    def person_of(self, spot: Spot) -> int:
+        """The person whose a spot is. Where others make names, too, it is a line of its own: of
+        each owner of such directories, and of each directory of root's."""
         names = self.mirror.state.tree.entries.get(spot.directory, {})
         known = names.get(spot.name) if spot.name else spot.directory
         person = self.narrowing.whose(spot.directory, known)
-        return person if person != OUTSIDE else OUTSIDE - 1 - spot.directory
+        if person != OUTSIDE:
+            return person
+        owner = self.mirror.state.tree.nodes[spot.directory].rights.owner
+        return OUTSIDE - 1 - owner if owner else BY_ROOT - spot.directory
 
     # ---- a look
 
@@ -225,7 +230,7 @@ class Looks:
     def _feed(self, seen: Seen, texts: Texts) -> None:
         """Feeds what was seen, and takes in what is new. Raises `NoMemory`, and `Failed`."""
         mirror, before, after = self.mirror, seen.before, seen.target.tree
-        follower = _Follower(self)
+        follower = Follower(self)
         with self.narrowing.comparing():
             is_fed = mirror.feeder.feed_part(
                 before, after, seen.target.following, texts, self.narrowing.reach, follower
@@ -242,7 +247,7 @@ class Looks:
             for one in seen.found:
                 mirror.note_documents([one], wish.person_of(one.node.rights.owner))
 
-    def _take_in(self, seen: Seen, follower: "_Follower") -> None:
+    def _take_in(self, seen: Seen, follower: "Follower") -> None:
         """Has all that is new, or elsewhere, compared once more: it may be otherwise by now."""
         directories, tree = self.directories, self.mirror.state.tree
         if directories is None:
@@ -257,7 +262,7 @@ class Looks:
             self.kept.tell_of(number, is_whole=True)
 
 
-class _Follower:
+class Follower:
     """Keeps what is known of the tree as it is, and remembers what came to be where it wasn't.
 
     `names` has each name that leads to another file now, and `moved` each directory elsewhere.
@@ -268,6 +273,11 @@ class _Follower:
         self.moved: list[int] = []
         self.names: list[tuple[int, bytes]] = []
         self.other: set[int] = set()  # numbers of nodes that are other files now
+
+    def failed(self) -> None:
+        """The batch isn't in the program: what the kernel told until now has to be found by a walk,
+        or nobody would be answered."""
+        self.looks.narrowing.hearing.miss()
 
     def is_less(self, number: int) -> None:
         """A node is given less than was seen: it is looked at again."""
@@ -296,7 +306,7 @@ class _Follower:
             elif number:
                 self.names.append((directory, name))
         for number in self.other:
-            self.names += looks.index.places_of(number, tree)
+            self.names += looks.index.places_of(number)
 
 
 def _spot(directory: int, name: bytes) -> Spot:

@@ -299,7 +299,8 @@ class Narrowing:
             return reader.take(due)
         except Gone as error:
             self.is_gone, self.is_lost, self.why = True, True, str(error)
-            self.hearing.end()
+            with self.ledger:  # a look may be feeding by the same connection
+                self.hearing.end()
             return [], 0, 0
 
     def _step(self, events: list[Event], flags: int, until: int) -> None:

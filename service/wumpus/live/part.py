@@ -158,7 +158,7 @@ def _places_of(number: int, part: Part, index: Index) -> Iterator[Place]:
     if number in part.tree.entries:
         yield part.places[number]
     else:
-        yield from index.places_of(number, part.tree)
+        yield from index.places_of(number)
 
 
 class _Seen:

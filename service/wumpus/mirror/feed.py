@@ -32,6 +32,9 @@ class Reaches(Protocol):
 class Follower(Protocol):
     """Keeps something that is made of the tree, and is told of each change by a look."""
 
+    def failed(self) -> None:
+        """The batch isn't in the program. Under the lock of the batches."""
+
     def is_less(self, number: int) -> None:
         """A node is given less than the look saw, since something of it was taken away."""
 
@@ -230,6 +233,7 @@ class Feeder:
                 reach.feed(batch, b"live")
             except NoMemory:
                 self.files.take_back()
+                follower.failed()
                 raise
             finally:
                 batch.close()
