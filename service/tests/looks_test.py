@@ -27,7 +27,8 @@ from service_test import wait_for
 from tree import NAMES, Changes
 
 from wumpus.live.looks import Looks  # isort: skip
-from wumpus.live.narrowing import Narrowing, Settings  # isort: skip
+from wumpus.live.narrowing import Narrowing  # isort: skip
+from wumpus.live.settings import Settings  # isort: skip
 from wumpus.mirror.access import Access  # isort: skip
 from wumpus.mirror.batch import Batch  # isort: skip
 from wumpus.mirror.budget import Budget  # isort: skip

@@ -11,10 +11,7 @@ import threading
 import time
 import traceback
 from collections.abc import Callable, Iterator
-from dataclasses import dataclass
-from pathlib import Path
 
-from ..mirror.access import Access
 from ..mirror.ledger import narrowed
 from ..mirror.nodes import Node, Rights, Tree
 from ..mirror.planner import Planner
@@ -30,6 +27,7 @@ from .kept import ALL, Kept
 from .mounting import Mounting, node_at
 from .reader import Event, Gone, Reader
 from .seeing import Seeing
+from .settings import Counts, GroupMarks, Settings
 from .waiting import Item, Waiting
 from .watcher import NoWatch, Watcher
 
@@ -46,46 +44,6 @@ WALKS_APART = 10.0  # seconds from one walk for what was lost to the next
 SWITCH_SECONDS = 0.001  # that a thread waits for another one, as for a walk's, at most
 ITSELF = b"."  # the name by which an event tells of a directory itself
 OF_NAMES = calls.FAN_DELETE | calls.FAN_MOVED_FROM | calls.FAN_MOVED_TO
-
-
-@dataclass(frozen=True)
-class Settings:
-    """Where `wumpus-watch` answers, the planner, what is mirrored, and how rights are read.
-
-    Where it is full, all that changes is kept for looks, beside what becomes less.
-    """
-
-    watch: Path
-    planner: str
-    roots: tuple[bytes, ...]
-    access: Access
-    is_full: bool = False
-
-
-@dataclass
-class Counts:
-    """What was done since the mirror began."""
-
-    narrowed: int = 0  # nodes
-    batches: int = 0
-    lost: int = 0  # times that the kernel, or the reader, had no room for events
-
-
-class _GroupMarks:
-    """Marks of one group, which is told of all changes, or of what becomes less."""
-
-    def __init__(self, watcher: Watcher, group: int, is_full: bool) -> None:
-        self.watcher = watcher
-        self.group = group
-        self.is_full = is_full
-
-    def system(self, directory: int) -> None:
-        """Of a file system, which the mirror itself may not mark."""
-        self.watcher.mark(self.group, directory, self.is_full)
-
-    def one(self, directory: int) -> None:
-        """Of one directory."""
-        calls.mark_directory(self.group, directory)
 
 
 class Narrowing:
@@ -246,7 +204,7 @@ class Narrowing:
         except (NoWatch, OSError) as error:
             self.why = f"the kernel doesn't tell of changes: {error}"
             return
-        marks = _GroupMarks(watcher, group, self.settings.is_full)
+        marks = GroupMarks(watcher, group, self.settings.is_full)
         self.directories = Directories(marks, self.settings.roots)
         self.compared = None
         self.mounting = self.mounting or Mounting(self.settings.roots)

@@ -13,7 +13,8 @@ from ..mirror.turn import Mirror
 from ..shared.progress import plain
 from ..shared.store import CONTROL
 from .looks import Looks
-from .narrowing import Narrowing, Settings
+from .narrowing import Narrowing
+from .settings import Settings
 from .packets import SOCKET
 
 OFF, NARROW, FULL = "off", "narrow", "full"
