@@ -63,10 +63,10 @@ def events(score: Score) -> None:
 
 
 def kept(score: Score) -> None:
-    """What waits for the mirror: equal events once, bounded for each directory, of each some."""
+    """What waits for the mirror: equal events once, bounded for each directory, in turn."""
     places = [key_of(9, struct.pack("=Ii", 8, 1) + b"place%03d" % one) for one in range(2)]
     wait = Kept()
-    with mock.patch.object(emptier, "OF_ONE", 3), mock.patch.object(emptier, "AT_ONCE", 4):
+    with mock.patch.multiple(emptier, OF_ONE=3, OF_TURN=1, AT_ONCE=2):
         for name in (b"a", b"a", b"b", b"c"):
             wait.add(event(calls.FAN_DELETE, piece(2, places[0], name)))
         wait.add(event(calls.FAN_ATTRIB, piece(2, places[0], b"a")))
@@ -82,15 +82,47 @@ def kept(score: Score) -> None:
         first = wait.give()
         size, flags, until = emptier.HEAD.unpack_from(first)
         score.check(flags == emptier.LOST_OF_ONE | emptier.LOST, f"what was lost: {flags}")
-        score.check(until == 7, f"up to when: {until}")
+        score.check(until == 0, f"a turn is left: {until}")
         score.check(len(first) == emptier.HEAD.size + size, "how long it is")
         told = [(what, told_in(names).name) for what, names in events_in(first[emptier.HEAD.size :])]
         due = [(calls.FAN_DELETE | calls.FAN_ATTRIB, b"a"), (calls.FAN_ATTRIB, b"x")]
-        score.check(told[:2] == due, f"of each directory one: {told}")
-        more = 0
+        score.check(told == due, f"of each directory one: {told}")
+        wait.until = 9
+        more = []
         while not wait.is_empty():
-            more += len(events_in(wait.give()[emptier.HEAD.size :]))
-        score.check((len(told), more, wait.size) == (3, 4, 0), f"then the rest: {told} {more}")
+            one = wait.give()
+            _, _, until = emptier.HEAD.unpack_from(one)
+            more.append((until, len(events_in(one[emptier.HEAD.size :]))))
+        score.check(more == [(7, 2), (9, 2), (9, 1)], f"then the rest: {more}")
+        score.check(wait.size == 0, "nothing is left")
+
+
+def crowded(score: Score) -> None:
+    """Who has very many directories told of: what others change in one comes all the same."""
+    ours, count = key_of(9, struct.pack("=Ii", 8, 1) + b"ofothers"), 150
+    wait = Kept()
+
+    def make() -> None:
+        for number in range(1000):
+            key = key_of(9, struct.pack("=IiQ", 8, 1, number))
+            wait.add(event(calls.FAN_ATTRIB, piece(2, key, b".")))
+
+    with mock.patch.object(emptier, "AT_ONCE", 400):
+        make()
+        for number in range(count):
+            wait.add(event(calls.FAN_ATTRIB, piece(2, ours, b"file%d" % number)))
+        wait.until, rounds, given = 5, 0, 0
+        while any(b"file" in name for name in names_in(wait)):
+            score.check(given < 5, "it is told that all came")
+            given = emptier.HEAD.unpack_from(wait.give())[2]
+            rounds += 1
+            wait.until += 1
+            make()
+        score.check(rounds == 3, f"it came after {rounds} rounds")
+        for _ in range(3):
+            before, given = given, emptier.HEAD.unpack_from(wait.give())[2]
+            make()
+        score.check(given > before or given >= 7, f"the moment doesn't go on: {given}")
 
 
 def emptied(score: Score) -> None:
@@ -276,7 +308,7 @@ def main() -> int:
     options(__doc__ or "").parse_args()
     score = Score("live")
     parts: tuple[Callable[[Score], None], ...] = (
-        events, kept, emptied, persons, moved, replaced, lines, merged, rights
+        events, kept, crowded, emptied, persons, moved, replaced, lines, merged, rights
     )  # fmt: skip
     for part in parts:
         part(score)

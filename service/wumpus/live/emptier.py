@@ -14,6 +14,8 @@ import socket
 import struct
 import sys
 import termios
+from collections import OrderedDict
+from itertools import islice
 
 from ..shared.clock import moment
 from ..shared.program import die_with_parent
@@ -28,6 +30,7 @@ OF_ONE = 20_000  # events that wait, of one directory, and of files without one
 BYTES_MAX = 64 << 20
 OF_EVENT = 400  # bytes beside its own that an event takes
 AT_ONCE = 20_000  # events that the mirror is given at once
+OF_TURN = 200  # of them of one directory, before others have their turn
 ASKS = b"?"
 HEAD = struct.Struct("=IIQ")  # of what is given: its bytes, flags, and up to which moment
 WHOLE = 1 << 32  # beside what happened to one name: to others of its directory, too
@@ -37,13 +40,18 @@ FILES = b""  # in the place of the directory, of events that name none
 
 
 class Kept:
-    """The events that wait. All that the kernel told before the moment `until` came, or is lost."""
+    """The events that wait. All that the kernel told before the moment `until` came, or is lost.
+
+    Directories have turns. Each had one, of what was told before the moment `given`.
+    """
 
     def __init__(self) -> None:
-        self.events: dict[bytes, dict[bytes, int]] = {}
+        self.events: OrderedDict[bytes, dict[bytes, int]] = OrderedDict()
         self.size = 0
         self.flags = 0
-        self.until = 0
+        self.until = self.given = 0
+        self.due = 0  # what `given` becomes
+        self.turns = 0  # after so many turns
 
     def is_empty(self) -> bool:
         """Whether there is nothing to be given."""
@@ -78,19 +86,28 @@ class Kept:
         return count
 
     def give(self) -> bytes:
-        """Some of them, of each directory as many, as bytes: what is left waits behind these."""
-        pieces = []
-        each = max(1, AT_ONCE // max(1, len(self.events)))
-        for directory in list(self.events):
-            events = self.events[directory]
-            for names in list(events)[:each] if len(events) > each else list(events):
+        """Some of them, of each directory in turn, as bytes: what is left waits behind these.
+
+        However many directories somebody has, those of others wait for one round at most.
+        """
+        pieces: list[bytes] = []
+        while self.events and len(pieces) < AT_ONCE:
+            if not self.turns:
+                self.due, self.turns = self.until, len(self.events)
+            directory, events = self.events.popitem(last=False)
+            for names in list(islice(events, OF_TURN)):
                 pieces.append(EVENT.pack(events.pop(names), len(names)) + names)
                 self.size -= len(names) + OF_EVENT
-            if not events:
-                del self.events[directory]
+            if events:
+                self.events[directory] = events
+            self.turns -= 1
+            if not self.turns:
+                self.given = self.due
+        if not self.events:
+            self.given = self.until
         told = b"".join(pieces)
         flags, self.flags = self.flags, 0
-        return HEAD.pack(len(told), flags, self.until) + told
+        return HEAD.pack(len(told), flags, self.given) + told
 
 
 def empty(group: int, mirror: socket.socket) -> None:
