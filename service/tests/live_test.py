@@ -95,6 +95,9 @@ def kept(score: Score) -> None:
             more.append((until, len(events_in(one[emptier.HEAD.size :]))))
         score.check(more == [(7, 2), (9, 2), (9, 1)], f"then the rest: {more}")
         score.check(wait.size == 0, "nothing is left")
+        with mock.patch.object(emptier, "BYTES_MAX", 0):
+            wait.add(event(calls.FAN_ATTRIB, piece(2, places[0], b"a")))
+        score.check((wait.flags, len(wait.events)) == (emptier.LOST, 0), "no room is none")
 
 
 def crowded(score: Score) -> None:

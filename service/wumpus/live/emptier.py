@@ -66,9 +66,7 @@ class Kept:
                 self.flags |= LOST
                 continue
             directory = first if is_of_directory(names) else FILES
-            events = self.events.get(directory)
-            if events is None:
-                events = self.events[directory] = {}
+            events = self.events.get(directory, {})
             before = events.get(names)
             if before is not None:
                 events[names] = before | what
@@ -81,7 +79,7 @@ class Kept:
             elif len(events) >= OF_ONE:
                 events[next(iter(events))] |= WHOLE
             else:
-                events[names] = what
+                self.events.setdefault(directory, events)[names] = what
                 self.size += len(names) + OF_EVENT
         return count
 
