@@ -1,8 +1,10 @@
 """What is dirty: what the kernel told until it is understood, when it is due, and who is next."""
 
+import os
 import sys
 import threading
 from pathlib import Path
+from tempfile import TemporaryDirectory
 from unittest import mock
 
 from harness import Score, options
@@ -16,6 +18,8 @@ from wumpus.live.narrowing import OUTSIDE  # isort: skip
 from wumpus.live.part import Part, TooLarge  # isort: skip
 from wumpus.mirror import feed  # isort: skip
 from wumpus.mirror.feed import Feeder  # isort: skip
+from wumpus.mirror.mounts import Mount  # isort: skip
+from wumpus.mirror.names import FileSystems, entries_in  # isort: skip
 from wumpus.mirror.nodes import ROOT, Node, Rights, Tree  # isort: skip
 from wumpus.mirror.planner import Plan  # isort: skip
 from wumpus.mirror.reach import NoMemory  # isort: skip
@@ -171,6 +175,29 @@ def index(score: Score) -> None:
     score.check(counts == (other.counts.names, other.counts.directories), f"{counts}")
 
 
+def names(score: Score) -> None:
+    """A name is asked for alone only where what is found by it is called so."""
+    systems = FileSystems(False, mock.Mock())
+    with TemporaryDirectory(dir="/var/tmp") as folder:
+        Path(folder, "Report").write_text("")
+        directory = os.open(folder, os.O_RDONLY | os.O_DIRECTORY)
+        flagged = (0x40000000).to_bytes(8, sys.byteorder)
+        of_vfat = mock.Mock(return_value=Mount("vfat", b"/"))
+        of_ext4 = mock.Mock(return_value=Mount("ext4", b"/"))
+        with mock.patch.object(systems.mounts, "of", of_ext4):
+            score.check(systems.tells_names(directory), "names that are bytes")
+            with mock.patch("fcntl.ioctl", mock.Mock(return_value=flagged)):
+                score.check(not systems.tells_names(directory), "a directory without case")
+        with mock.patch.object(systems.mounts, "of", of_vfat):
+            score.check(not systems.tells_names(directory), "a file system without case")
+            with mock.patch("os.scandir", wraps=os.scandir) as listed:
+                with entries_in(directory, {b"report"}, (), systems) as found:
+                    told = [one.name for one in found]
+            score.check(listed.called and told == ["Report"], f"it isn't listed: {told}")
+        os.close(directory)
+    systems.close()
+
+
 def lines(score: Score) -> None:
     """Whose line it is that somebody made a new name where others may: the directory's owner's, so
     that who makes many directories has one line; of root's each directory has its own."""
@@ -244,7 +271,7 @@ def main() -> int:
     """Runs the test; it needs no program."""
     options(__doc__ or "").parse_args()
     score = Score("dirty")
-    for part in (told, due, turns, index, lines, failing, parts):
+    for part in (told, due, turns, index, names, lines, failing, parts):
         part(score)
     return score.end()
 

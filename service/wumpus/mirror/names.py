@@ -1,7 +1,9 @@
 """Reading the names of a directory. An error at one name is that name's alone."""
 
+import fcntl
 import os
 import stat
+import sys
 import time
 from collections.abc import Callable, Container, Iterable, Iterator, Set
 from contextlib import contextmanager
@@ -21,6 +23,9 @@ DECLINES = b".nowumpus"
 FEW = 64  # names that are asked for one by one, rather than that a directory is listed for them
 CHUNK = 1000  # names after which the time of a listing is counted
 PLACE_FLAGS = os.O_PATH | os.O_NOFOLLOW | os.O_CLOEXEC
+# File systems whose names are bytes, but for directories that have a flag against that.
+BY_BYTES = frozenset("btrfs ext2 ext3 ext4 f2fs ramfs tmpfs".split())
+_GET_FLAGS, _CASE_FOLDED = 0x80086601, 0x40000000  # FS_IOC_GETFLAGS, FS_CASEFOLD_FL of linux/fs.h
 
 
 class Known(Protocol):
@@ -77,6 +82,20 @@ class FileSystems:
         if directory.above is not None and directory.name not in self.bounds:
             return {}
         return self.mounts.left_out_in(directory.path())
+
+    def tells_names(self, directory: int) -> bool:
+        """Whether a name that is asked for in a directory is there as it is written.
+
+        Where names have no case another one is found by it, which a listing tells apart.
+        """
+        mount = self.mounts.of(directory)
+        if mount is None or mount.kind not in BY_BYTES:
+            return False
+        try:
+            flags = fcntl.ioctl(directory, _GET_FLAGS, bytes(8))
+        except OSError:
+            return True  # it has no flags, so none that says that names have no case
+        return not int.from_bytes(flags, sys.byteorder) & _CASE_FOLDED
 
     def is_walked(self, step: Step, name: bytes, device: int) -> bool:
         """Whether the one of this device is, on which the name in a directory is.
@@ -200,11 +219,11 @@ def _singles(directory: int, names: Set[bytes], unasked: Container[bytes]) -> It
 
 
 @contextmanager
-def _entries(
-    directory: int, only: Set[bytes] | None, unasked: Container[bytes]
+def entries_in(
+    directory: int, only: Set[bytes] | None, unasked: Container[bytes], systems: FileSystems
 ) -> Iterator[Iterable[os.DirEntry[str] | Single]]:
     """The names in a directory, or of those that are wanted alone. Raises `OSError`."""
-    if only is not None and len(only) <= FEW:
+    if only is not None and len(only) <= FEW and systems.tells_names(directory):
         yield _singles(directory, only, unasked)
     else:
         with os.scandir(directory) as entries:
@@ -249,7 +268,7 @@ class Names:
         left_out = self.systems.left_out_in(directory)
         seen: set[bytes] = set(places)
         try:
-            with _entries(step.descriptor, only, left_out) as entries:
+            with entries_in(step.descriptor, only, left_out, self.systems) as entries:
                 for count, entry in enumerate(entries, 1):
                     name = os.fsencode(entry.name)
                     name = kept.get(name, name)
