@@ -59,6 +59,12 @@ class Held(Direct):
         if self.after is not None:
             self.after()
 
+    def heard(self, since: int, until: int) -> None:
+        """Nobody asks how far it is."""
+
+    def unheard(self) -> None:
+        """Nor whether it is told at all."""
+
     def abort(self) -> None:
         """There is no connection."""
 
