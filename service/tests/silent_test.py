@@ -184,6 +184,8 @@ def falls_silent(stage: Stage, score: Score, processes: list[int], what: str) ->
         for process in processes:
             os.kill(process, signal.SIGCONT)
     wait_for(lambda: is_answered(stage), LATER)
+    time.sleep(2.0)  # the first word after that may be an old one, which is soon too old
+    wait_for(lambda: is_answered(stage), LATER)
     score.check(is_answered(stage), f"{what}: it goes on, and nobody is answered")
 
 
